@@ -1,0 +1,7 @@
+pub mod Refusals
+pub mod Search
+pub mod Kinds
+pub mod Tree
+pub mod Layout
+pub mod Meaning
+pub mod View
