@@ -6,3 +6,5 @@ pub mod Lists
 pub mod Levels
 pub mod Searches
 pub mod Checking
+pub mod Passed
+pub mod Whole

@@ -1,5 +1,5 @@
 -- the tests of a table's meaning; each holds of the statements that fail
-use mathlib.Core.List.{List}
+use mathlib.Core.List.{List, [], _∷_}
 use mathlib.Core.Bool.{Bool, true, false, cond, not, _&&_, _||_}
 use Prim.Native.Nat.{ℕ, zero, suc, _+_}
 use lib.Dec.{eqb}
@@ -41,6 +41,23 @@ abbrev pub is-local : SignalKind → Bool
 is-local Input = false
 is-local Output = false
 is-local Own = true
+
+-- the two kinds are the same
+abbrev pub same : SignalKind → SignalKind → Bool
+same Input Input = true
+same Input Output = false
+same Input Own = false
+same Output Input = false
+same Output Output = true
+same Output Own = false
+same Own Input = false
+same Own Output = false
+same Own Own = true
+
+-- how many signals of a kind there are
+abbrev pub how-many : SignalKind → List SignalKind → ℕ
+how-many k [] = 0
+how-many k (g ∷ gs) = cond (same g k) 1 0 + how-many k gs
 
 abbrev pub signal-at : List SignalKind → ℕ → SignalKind
 signal-at gs s = getD gs s Input

@@ -41,7 +41,7 @@ fn names(kind: Kind, part: usize) -> usize
 
 impl Table {
     // Statement i, one level of its tree, and where its parts lie.
-    fn kind(&self, i: usize) -> Kind
+    pub(crate) fn kind(&self, i: usize) -> Kind
         requires { ⌜ i < count-of (now self) ⌝ }
         ensures value { λ r. ⌜ r ≡ kind-at (kinds-of (now (self .entry))) i ⌝ }
         ensures rise { λ r. ⌜ PartsRise (count-of (now (self .entry))) i (shape r) ⌝ }
@@ -50,7 +50,7 @@ impl Table {
         self.statements[i].kind
     }
 
-    fn count(&self) -> usize
+    pub(crate) fn count(&self) -> usize
         ensures rows { λ r. ⌜ r ≡ count-of (now (self .entry)) ⌝ }
         ensures listed { λ r. ⌜ r ≡ length (kinds-of (now (self .entry))) ⌝ }
     {

@@ -1,14 +1,14 @@
 pub mod checked;
 pub mod checker;
 pub mod kinds;
+pub mod questions;
 pub mod reader;
 pub mod refusals;
 pub mod tables;
 
 pub use checked::Routine;
-
+pub use checker::check;
 pub use kinds::{Kind, Mark, SignalKind, Statement};
-
 pub use reader::read;
 pub use refusals::Refusal;
 pub use tables::Table;
