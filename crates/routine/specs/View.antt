@@ -4,6 +4,7 @@ use mathlib.Core.Path.{_≡_}
 use mathlib.Core.Bool.{Bool}
 use Prim.Native.Nat.{ℕ, _<_}
 use Rattle.std.specs.Of.Vec.{vec-items, vec-len}
+use Rattle.std.specs.declared.option.Option.{Option}
 use Rattle.std.specs.declared.option.Option.the-variants.{Some, None}
 use Rattle.std.specs.declared.result.Result.{Result}
 use Rattle.std.specs.declared.result.Result.the-variants.{Ok, Err}
@@ -17,6 +18,7 @@ use Rattle.routine.specs.declared.checker.Test.{Test}
 use Rattle.routine.specs.declared.checker.Test.the-variants.{Parts, SignalUse, Scope, EndlessLoop}
 use Rattle.routine.specs.Kinds.{kinds, kind-at, Shape, no-part, one-part, two-parts}
 use Rattle.routine.specs.Tree.{Tree, tree-at}
+use Rattle.routine.specs.Layout.{read-of}
 use Rattle.routine.specs.Meaning.{stray, misuses, unscoped, endless, check-of}
 
 abbrev pub signals-of : Table → List SignalKind
@@ -54,3 +56,19 @@ fails t Parts i = stray (kinds-of t) i
 fails t SignalUse i = misuses (signals-of t) (kind-at (kinds-of t) i)
 fails t Scope i = unscoped (signals-of t) (kinds-of t) i (kind-at (kinds-of t) i)
 fails t EndlessLoop i = endless (kinds-of t) (kind-at (kinds-of t) i)
+
+-- a table that is read is checked next
+abbrev pub judged : List SignalKind × List Statement → Option Refusal → Result (List SignalKind × List Statement) Refusal
+judged p None = Ok p
+judged p (Some e) = Err e
+
+abbrev pub then-checked : Result (List SignalKind × List Statement) Refusal → Result (List SignalKind × List Statement) Refusal
+then-checked (Ok p) = judged p (check-of (p .0) (kinds (p .1)))
+then-checked (Err e) = Err e
+
+-- the signals and the statements of the routine that the bytes say, or why they are none
+abbrev pub load-of : List ℕ → Result (List SignalKind × List Statement) Refusal
+load-of bytes = then-checked (read-of bytes)
+
+abbrev pub routine-content : Routine → List SignalKind × List Statement
+routine-content r = content (r .table)

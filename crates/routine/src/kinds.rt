@@ -1,5 +1,8 @@
 ghost use mathlib.Core.Path.{_≡_};
+ghost use Rattle.std.specs.declared.option.Option.the-variants.{Some};
 ghost use Rattle.routine.specs.Kinds.{fresh};
+ghost use Rattle.routine.specs.Texts.{kind-text};
+use std::fmt;
 
 // Who raises a signal: the world outside, the routine for the outside, or the routine for itself.
 #[derive(Clone, Copy, PartialEq, Eq, Debug)]
@@ -52,5 +55,25 @@ impl Statement {
         ensures after { λ _. ⌜ now (self .exit) .mark ≡ mark ⌝ }
     {
         self.mark = mark;
+    }
+}
+
+// A statement's name and its signal.
+pub impl fmt::Display for Kind as KindDisplay {
+    ghost shown = { λ k. Some (kind-text k) };
+
+    fn fmt<W: fmt::Write>(&self, f: &mut fmt::Formatter<W>) -> fmt::Result {
+        match self {
+            Kind::Nothing => write!(f, "nothing"),
+            Kind::Stop => write!(f, "stop"),
+            Kind::Emit { signal } => write!(f, "emit {signal}"),
+            Kind::Wait { signal } => write!(f, "wait {signal}"),
+            Kind::Sequence { first: _, second: _ } => write!(f, "sequence"),
+            Kind::Parallel { first: _, second: _ } => write!(f, "parallel"),
+            Kind::Loop { first: _ } => write!(f, "loop"),
+            Kind::When { signal, first: _, second: _ } => write!(f, "when {signal}"),
+            Kind::Kill { signal, first: _ } => write!(f, "kill {signal}"),
+            Kind::Local { signal, first: _ } => write!(f, "local {signal}"),
+        }
     }
 }
