@@ -2,6 +2,7 @@ ghost use mathlib.Core.Bool.{cond};
 ghost use mathlib.Core.Path.{_≡_};
 ghost use Prim.Native.Nat.{ℕ, _<_, _≤_};
 ghost use lib.Dec.{ltb};
+ghost use lib.ListN.{length};
 ghost use Rattle.std.specs.Options.{Cases};
 ghost use Rattle.std.specs.declared.option.Option.the-variants.{Some, None};
 ghost use Rattle.routine.specs.Kinds.{kind-at, shape};
@@ -27,7 +28,8 @@ fn tally(signal: SignalKind, kind: SignalKind) -> usize
 impl Routine {
     // How many statements there are. Each is once in the routine's tree, however much deeper one looks.
     pub fn count(&self) -> usize
-        ensures value { λ r. ⌜ r ≡ count-of (now (self .entry) .table) ⌝ }
+        ensures value { λ r. ⌜ r ≡ length (kinds-of (now (self .entry) .table)) ⌝ }
+        ensures rows { λ r. ⌜ r ≡ count-of (now (self .entry) .table) ⌝ }
         ensures once { λ r. ⌜ ((i : ℕ) → occurs (tree-of (now (self .entry))) i ≡ cond (ltb i r) 1 0) ⌝ }
         ensures whole { λ r. ⌜ size (tree-of (now (self .entry))) ≡ r ⌝ }
         ensures fuel { λ r. ⌜ ((deep : ℕ) → r ≤ deep → tree (kinds-of (now (self .entry) .table)) deep 0 ≡ tree-of (now (self .entry))) ⌝ }

@@ -8,7 +8,8 @@ returns c =
     let r = c .args .self .now in
     let e = c .count .ensures .listed in
     record {
-      value = c .count .ensures .rows;
+      value = e;
+      rows = c .count .ensures .rows;
       once = each-once r _ e;
       whole = all-statements r ∙ sym e;
       fuel = λ deep l. any-fuel r deep (omega arith)
