@@ -29,13 +29,13 @@ one-on ms x (Err j) e = refl
 
 -- an entry that says x is read
 more : {A : Type 0} (ms ns : List A) (x : A) (o : Option A) (r d all : Result (List A) Refusal) (e : Refusal)
-  → o ≡ Some x → ns ≡ ms ++ x ∷ [] → d ≡ onto e o r → after ms d ≡ all → after ns r ≡ all
+    → o ≡ Some x → ns ≡ ms ++ x ∷ [] → d ≡ onto e o r → after ms d ≡ all → after ns r ≡ all
 more ms ns x o r d all e says n step h =
     ap (λ k. after k r) n ∙ one-on ms x r e ∙ ap (λ p. after ms (onto e p r)) (sym says) ∙ ap (after ms) (sym step) ∙ h
 
 -- an entry that says nothing
 less : {A : Type 0} (ms : List A) (o : Option A) (r d all : Result (List A) Refusal) (e : Refusal)
-  → o ≡ None → d ≡ onto e o r → after ms d ≡ all → all ≡ Err e
+    → o ≡ None → d ≡ onto e o r → after ms d ≡ all → all ≡ Err e
 less ms o r d all e says step h =
     sym h ∙ ap (after ms) (step ∙ ap (λ p. onto e p r) says)
 
@@ -44,17 +44,17 @@ module _ (bytes : List ℕ) (i : ℕ) (l : i < length bytes) where
   signals-step = at-drop-more (signals-from i) bytes i 0 l
 
   pub signals-more : (ms ns : List SignalKind) (k : SignalKind) (all : Result (List SignalKind) Refusal)
-    → Some k ≡ signal-kind (getD bytes i 0) → ns ≡ ms ++ k ∷ [] → after ms (signals-from i (drop i bytes)) ≡ all
-    → after ns (signals-from (i + 1) (drop (i + 1) bytes)) ≡ all
+      → Some k ≡ signal-kind (getD bytes i 0) → ns ≡ ms ++ k ∷ [] → after ms (signals-from i (drop i bytes)) ≡ all
+      → after ns (signals-from (i + 1) (drop (i + 1) bytes)) ≡ all
   signals-more ms ns k all says n h = more ms ns k _ _ _ all _ (sym says) n signals-step h
 
   pub signals-less : (ms : List SignalKind) (all : Result (List SignalKind) Refusal)
-    → None ≡ signal-kind (getD bytes i 0) → after ms (signals-from i (drop i bytes)) ≡ all → all ≡ Err (BadSignalKind i)
+      → None ≡ signal-kind (getD bytes i 0) → after ms (signals-from i (drop i bytes)) ≡ all → all ≡ Err (BadSignalKind i)
   signals-less ms all says h = less ms _ _ _ all _ (sym says) signals-step h
 
 module _ (g n i : ℕ) where
   records-step : (bytes : List ℕ) → 4 ≤ length bytes
-    → records-from g n i bytes ≡ onto (Record i) (fitting g n i (spelled (getD bytes 0 0) (getD bytes 1 0) (getD bytes 2 0) (getD bytes 3 0))) (records-from g n (i + 1) (drop 4 bytes))
+      → records-from g n i bytes ≡ onto (Record i) (fitting g n i (spelled (getD bytes 0 0) (getD bytes 1 0) (getD bytes 2 0) (getD bytes 3 0))) (records-from g n (i + 1) (drop 4 bytes))
   records-step [] l = absurd (omega arith)
   records-step (a ∷ []) l = absurd (omega arith)
   records-step (a ∷ (b ∷ [])) l = absurd (omega arith)
@@ -62,12 +62,12 @@ module _ (g n i : ℕ) where
   records-step (a ∷ (b ∷ (c ∷ (d ∷ rest)))) l = refl
 
   module _ (bytes : List ℕ) (l : 4 ≤ length bytes) (ms : List Statement) (all : Result (List Statement) Refusal)
-    (h : after ms (records-from g n i bytes) ≡ all) where
+      (h : after ms (records-from g n i bytes) ≡ all) where
     abbrev said : Option Kind
     said = spelled (getD bytes 0 0) (getD bytes 1 0) (getD bytes 2 0) (getD bytes 3 0)
 
     pub records-more : (ns : List Statement) (k : Kind) (x : Statement) (m : ℕ) → Some k ≡ said → true ≡ fits g n i k → x ≡ fresh k → ns ≡ ms ++ x ∷ [] → m ≡ i + 1
-      → after ns (records-from g n m (take (length bytes - 4) (drop 4 bytes))) ≡ all
+        → after ns (records-from g n m (take (length bytes - 4) (drop 4 bytes))) ≡ all
     records-more ns k x m says fit new e j =
         rw (j, take-rest bytes 4) (more ms ns (fresh k) _ _ _ all _ (ap (fitting g n i) (sym says) ∙ ap (λ b. cond b (Some (fresh k)) None) (sym fit)) (rw new at e) (records-step bytes l) h)
 
@@ -111,7 +111,7 @@ module _ (g n : ℕ) where
       ap length (u .whole) ∙ omega arith
 
   pub records-fit : (bytes : List ℕ) (i : ℕ) (xs : List Statement) → records-from g n i bytes ≡ Ok xs
-    → (k : ℕ) → k < length xs → fits g n (i + k) (kind-at (kinds xs) k) ≡ true
+      → (k : ℕ) → k < length xs → fits g n (i + k) (kind-at (kinds xs) k) ≡ true
   records-fit [] i xs h k l = let e : xs ≡ [] = cc in let f = ap length e in absurd (omega arith)
   records-fit (a ∷ []) i xs h k l = let e : xs ≡ [] = cc in let f = ap length e in absurd (omega arith)
   records-fit (a ∷ (b ∷ [])) i xs h k l = let e : xs ≡ [] = cc in let f = ap length e in absurd (omega arith)
@@ -119,9 +119,9 @@ module _ (g n : ℕ) where
   records-fit (a ∷ (b ∷ (c ∷ (d ∷ rest)))) i xs h k l =
       let u = onto-ok _ (fitting g n i (spelled a b c d)) (records-from g n (i + 1) rest) xs h in
       subst (λ ys. fits g n (i + k) (kind-at (kinds ys) k) ≡ true) (sym (u .whole))
-        (at k (u .head) (u .tail) (subst (λ ys. k < length ys) (u .whole) l) (fits-said i (spelled a b c d) (u .head) (u .here)) (records-fit rest (i + 1) (u .tail) (u .rest)))
+      (at k (u .head) (u .tail) (subst (λ ys. k < length ys) (u .whole) l) (fits-said i (spelled a b c d) (u .head) (u .here)) (records-fit rest (i + 1) (u .tail) (u .rest)))
     where
       at : (k : ℕ) (x : Statement) (ys : List Statement) → k < length (x ∷ ys) → fits g n i (x .kind) ≡ true
-        → ((j : ℕ) → j < length ys → fits g n (i + 1 + j) (kind-at (kinds ys) j) ≡ true) → fits g n (i + k) (kind-at (kinds (x ∷ ys)) k) ≡ true
+          → ((j : ℕ) → j < length ys → fits g n (i + 1 + j) (kind-at (kinds ys) j) ≡ true) → fits g n (i + k) (kind-at (kinds (x ∷ ys)) k) ≡ true
       at zero x ys l f r = subst (λ (j : ℕ). fits g n j (x .kind) ≡ true) (omega arith) f
       at (suc j) x ys l f r = subst (λ (m : ℕ). fits g n m (kind-at (kinds ys) j) ≡ true) (omega arith) (r j (omega arith))

@@ -16,7 +16,7 @@ parts-rise : (g n i : ℕ) (k : Kind) → fits g n i k ≡ true → PartsRise n 
 parts-rise g n i k h = grind arith
 
 pub level : (g : ℕ) (ks : List Kind) (n i : ℕ) (k : Kind) → Formed g ks → length ks ≡ n → i < n → k ≡ kind-at ks i
-  → PartsRise n i (shape k) × (tree-at ks i ≡ node i (shape k) (tree-at ks))
+    → PartsRise n i (shape k) × (tree-at ks i ≡ node i (shape k) (tree-at ks))
 level g ks n i k f e l r =
     let l′ : i < length ks = omega arith in
     (rw (r, ← e) (parts-rise g _ i _ (f i l′)), rw r (unroll ks (rising g ks f) i l′))

@@ -21,7 +21,7 @@ kinds-length ss n e = length-map ss (λ (y : Statement). y .kind) ∙ sym e
 -- signals of one kind, counted one after another
 module _ (k : SignalKind) (xs ys : List SignalKind) (e : ys ≡ xs) (i m : ℕ) where
   pub many-more : (d : SignalKind) (t all : ℕ) → i < length ys → t ≡ cond (same (getD ys i d) k) 1 0
-    → m + how-many k (drop i xs) ≡ all → m + t + how-many k (drop (i + 1) xs) ≡ all
+      → m + how-many k (drop i xs) ≡ all → m + t + how-many k (drop (i + 1) xs) ≡ all
   many-more d t all l o h =
       let l′ : i < length xs = rw e at l in
       let f : how-many k (drop i xs) ≡ cond (same (getD xs i d) k) 1 0 + how-many k (drop (i + 1) xs) = at-drop-more (how-many k) xs i d l′ in

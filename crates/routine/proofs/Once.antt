@@ -35,23 +35,26 @@ module _ (ks : List Kind) where
   named-more zero i a l = absurd (omega arith)
   named-more (suc n) i a l =
       elim (ℕ-discrete i n) [
-        yes e ↦ let h : names (shape-at ks i) a ≡ names (shape-at ks n) a = ap (λ j. names (shape-at ks j) a) e in omega arith
-      | no d ↦ let h = named-more n i a (omega arith) in omega arith ]
+        | yes e ↦ let h : names (shape-at ks i) a ≡ names (shape-at ks n) a = ap (λ j. names (shape-at ks j) a) e in omega arith
+        | no d ↦ let h = named-more n i a (omega arith) in omega arith
+      ]
 
   named-both : (n i j a : ℕ) → i < j → j < n → names (shape-at ks i) a + names (shape-at ks j) a ≤ named ks n a
   named-both zero i j a b l = absurd (omega arith)
   named-both (suc n) i j a b l =
       elim (ℕ-discrete j n) [
-        yes e ↦ let h : names (shape-at ks j) a ≡ names (shape-at ks n) a = ap (λ j. names (shape-at ks j) a) e in let g = named-more n i a (omega arith) in omega arith
-      | no d ↦ let h = named-both n i j a b (omega arith) in omega arith ]
+        | yes e ↦ let h : names (shape-at ks j) a ≡ names (shape-at ks n) a = ap (λ j. names (shape-at ks j) a) e in let g = named-more n i a (omega arith) in omega arith
+        | no d ↦ let h = named-both n i j a b (omega arith) in omega arith
+      ]
 
   -- what is named has a statement whose part it is
   owner : (n a : ℕ) → 1 ≤ named ks n a → (i : ℕ) × (i < n) × Part (shape-at ks i) a
   owner zero a h = absurd (omega arith)
   owner (suc n) a h =
       elim (decLt 0 (names (shape-at ks n) a)) [
-        yes b ↦ (n, omega arith, some-names (shape-at ks n) a (omega arith))
-      | no d ↦ let g = owner n a (omega arith) in (g .0, (let b = g .1 in omega arith), g .2) ]
+        | yes b ↦ (n, omega arith, some-names (shape-at ks n) a (omega arith))
+        | no d ↦ let g = owner n a (omega arith) in (g .0, (let b = g .1 in omega arith), g .2)
+      ]
 
 module _ (ks : List Kind) (S : Rising ks) (O : Once ks) where
   not-before : (i j a : ℕ) → i < length ks → j < length ks → Part (shape-at ks i) a → Part (shape-at ks j) a → ¬ (i < j)
@@ -116,25 +119,29 @@ module _ (ks : List Kind) (S : Rising ks) (O : Once ks) where
   distinct = trees ks S (λ i t. Distinct t) (λ i l g. at-shape i (shape-at ks i) refl (λ a h. S i l a h .1) (λ a. not-above i a l) (disjoint i l) g)
     where
       at-shape : (i : ℕ) (r : Shape) → shape-at ks i ≡ r → ((a : ℕ) → Part r a → a < length ks) → ((a : ℕ) → Part r a → ¬ (In (tree-at ks a) i))
-        → ((k : Two) (a b : ℕ) → shape-at ks i ≡ two-parts k a b → (j : ℕ) → Under ks a j → ¬ (Under ks b j))
-        → ((a : ℕ) → Part r a → Distinct (tree-at ks a)) → Distinct (node i r (tree-at ks))
+          → ((k : Two) (a b : ℕ) → shape-at ks i ≡ two-parts k a b → (j : ℕ) → Under ks a j → ¬ (Under ks b j))
+          → ((a : ℕ) → Part r a → Distinct (tree-at ks a)) → Distinct (node i r (tree-at ks))
       at-shape i (no-part k) e m f d g = tt
       at-shape i (one-part k a) e m f d g = (f a refl, g a refl)
-      at-shape i (two-parts k a b) e m f d g =
-          (f a (inl refl), f b (inr refl),
-           λ j h h′. d k a b e j (in-under ks S a (m a (inl refl)) j h) (in-under ks S b (m b (inr refl)) j h′),
-           g a (inl refl), g b (inr refl))
+      at-shape i (two-parts k a b) e m f d g = (
+        f a (inl refl),
+        f b (inr refl),
+        λ j h h′. d k a b e j (in-under ks S a (m a (inl refl)) j h) (in-under ks S b (m b (inr refl)) j h′),
+        g a (inl refl),
+        g b (inr refl),
+      )
 
   -- every statement is under the first
   pub every : (n a : ℕ) → 0 < length ks → a < n → a < length ks → Under ks 0 a
   every zero a z b l = absurd (omega arith)
   every (suc n) a z b l =
       elim (ℕ-discrete a 0) [
-        yes e ↦ subst (Under ks 0) (sym e) self
-      | no d ↦
-          let o = owner ks (length ks) a (let x = O a (omega arith) l in omega arith) in
-          let s = S (o .0) (o .1) a (o .2) in
-          part (every n (o .0) z (omega arith) (o .1)) (o .2) ]
+        | yes e ↦ subst (Under ks 0) (sym e) self
+        | no d ↦
+            let o = owner ks (length ks) a (let x = O a (omega arith) l in omega arith) in
+            let s = S (o .0) (o .1) a (o .2) in
+            part (every n (o .0) z (omega arith) (o .1)) (o .2)
+      ]
 
 -- how often a number occurs
 misses : (t : Tree) (i : ℕ) → ¬ (In t i) → occurs t i ≡ 0
@@ -176,8 +183,9 @@ sum-one : (m n : ℕ) → m < n → sum (λ i. cond (eqb i m) 1 0) n ≡ 1
 sum-one m zero h = absurd (omega arith)
 sum-one m (suc n) h =
     elim (ℕ-discrete n m) [
-      yes e ↦ let a = sum-none m n (omega arith) in grind arith
-    | no d ↦ let a = sum-one m n (omega arith) in grind arith ]
+      | yes e ↦ let a = sum-none m n (omega arith) in grind arith
+      | no d ↦ let a = sum-one m n (omega arith) in grind arith
+    ]
 
 total : (t : Tree) (n : ℕ) → ((i : ℕ) → In t i → i < n) → sum (occurs t) n ≡ size t
 total (leaf m k) n h = sum-one m n (h m refl)
@@ -205,8 +213,9 @@ module _ (ks : List Kind) (S : Rising ks) (O : Once ks) (z : 0 < length ks) wher
   pub occurs-once : (i : ℕ) → occurs (tree-at ks 0) i ≡ cond (ltb i (length ks)) 1 0
   occurs-once i =
       elim (decLt i (length ks)) [
-        yes l ↦ let a = once-in i l in grind arith
-      | no d ↦ let a = misses (tree-at ks 0) i (λ h. let b = under-below ks S z (in-under ks S 0 z i h) in omega arith) in grind arith ]
+        | yes l ↦ let a = once-in i l in grind arith
+        | no d ↦ let a = misses (tree-at ks 0) i (λ h. let b = under-below ks S z (in-under ks S 0 z i h) in omega arith) in grind arith
+      ]
 
   pub whole-size : size (tree-at ks 0) ≡ length ks
   whole-size =

@@ -27,7 +27,7 @@ pub record Tested (gs : List SignalKind) (ks : List Kind) : Type 0 where
   pub loops : (i : ℕ) → i < length ks → endless ks (kind-at ks i) ≡ false
 
 nothing-found : (o : Option ℕ) (why : ℕ → Refusal) (later : Option Refusal) → not (isSome (refusing o why later)) ≡ true
-  → (o ≡ None) × (not (isSome later) ≡ true)
+    → (o ≡ None) × (not (isSome later) ≡ true)
 nothing-found None why later h = (refl, h)
 nothing-found (Some i) why later h = absurd (grind arith)
 
@@ -43,7 +43,7 @@ tested gs ks h =
       parts = none-below (stray ks) n (a .0);
       uses = none-below (λ i. misuses gs (kind-at ks i)) n (b .0);
       scopes = none-below (λ i. unscoped gs ks i (kind-at ks i)) n (c .0);
-      loops = none-below (λ i. endless ks (kind-at ks i)) n (d .0)
+      loops = none-below (λ i. endless ks (kind-at ks i)) n (d .0);
     }
 
 pub once : (gs : List SignalKind) (ks : List Kind) → passes gs ks ≡ true → Once ks

@@ -36,7 +36,7 @@ module _ (bytes : List ℕ) (g n : ℕ) (h : headed bytes ≡ true) (e : g ≡ s
       ∙ ap (with-signals bytes) (ap (signals-from 0) (sym first-part) ∙ s)
 
   stated : (r : Result (List Statement) Refusal) → records-from g n 0 last-bytes ≡ r
-    → records-from (signal-count bytes) (statement-count bytes) 0 (record-bytes bytes) ≡ r
+      → records-from (signal-count bytes) (statement-count bytes) 0 (record-bytes bytes) ≡ r
   stated r s =
       subst (λ (k : ℕ). records-from k (statement-count bytes) 0 (record-bytes bytes) ≡ r) e
       (subst (λ (k : ℕ). records-from g k 0 (record-bytes bytes) ≡ r) f
@@ -67,5 +67,5 @@ module _ (bytes : List ℕ) (g n : ℕ) (h : headed bytes ≡ true) (e : g ≡ s
             let c : i < length ss = omega (arith, statements-many) in
             let b = records-fit g n last-bytes 0 ss t i c in
             subst (λ (k : ℕ). fits k (length (kinds ss)) i (kind-at (kinds ss) i) ≡ true) (sym o)
-              (subst (λ (k : ℕ). fits g k i (kind-at (kinds ss) i) ≡ true) (sym d)
-                (subst (λ (k : ℕ). fits g n k (kind-at (kinds ss) i) ≡ true) (omega arith) b))
+            (subst (λ (k : ℕ). fits g k i (kind-at (kinds ss) i) ≡ true) (sym d)
+            (subst (λ (k : ℕ). fits g n k (kind-at (kinds ss) i) ≡ true) (omega arith) b))

@@ -16,8 +16,9 @@ pub lowest-here : (P : ℕ → Bool) (n i : ℕ) → lowest P i ≡ None → P i
 lowest-here P zero i h e l = absurd (omega arith)
 lowest-here P (suc n) i h e l =
     elim (ℕ-discrete i n) [
-      yes x ↦ let a = rw x at h in let b = rw x at e in grind arith
-    | no d ↦ let a = lowest-here P n i h e (omega arith) in grind arith ]
+      | yes x ↦ let a = rw x at h in let b = rw x at e in grind arith
+      | no d ↦ let a = lowest-here P n i h e (omega arith) in grind arith
+    ]
 
 pub any-here : (P : ℕ → Bool) (n i : ℕ) → lowest P i ≡ None → P i ≡ true → i < n → any P n ≡ true
 any-here P n i h e l = ap isSome (lowest-here P n i h e l)

@@ -73,8 +73,8 @@ module _ (ks : List Kind) (S : Rising ks) where
 
   -- what holds of a node by its parts holds of the tree of each statement
   pub trees : (P : ℕ → Tree → Type 0)
-    → ((i : ℕ) → i < length ks → ((a : ℕ) → Part (shape-at ks i) a → P a (tree-at ks a)) → P i (node i (shape-at ks i) (tree-at ks)))
-    → (i : ℕ) → i < length ks → P i (tree-at ks i)
+      → ((i : ℕ) → i < length ks → ((a : ℕ) → Part (shape-at ks i) a → P a (tree-at ks a)) → P i (node i (shape-at ks i) (tree-at ks)))
+      → (i : ℕ) → i < length ks → P i (tree-at ks i)
   trees P h i l =
       climb (λ i. P i (tree-at ks i)) (λ i l g. subst (P i) (sym (unroll i l)) (h i l g)) (length ks) i l (omega arith)
 
@@ -125,7 +125,7 @@ module _ (ks : List Kind) (S : Rising ks) where
       own i j a r x f e h = let y : Part (shape-at ks i) a = rw h at e in in-part i a r a (rw (← x) at y) (f y)
 
       at-shape : (i j a : ℕ) (r : Shape) → r ≡ shape-at ks i → (Part (shape-at ks i) a → In (tree-at ks a) a) → ((b : ℕ) → Part r b → In (tree-at ks b) j → In (tree-at ks b) a)
-        → Part (shape-at ks j) a → In (node i r (tree-at ks)) j → In (node i r (tree-at ks)) a
+          → Part (shape-at ks j) a → In (node i r (tree-at ks)) j → In (node i r (tree-at ks)) a
       at-shape i j a (no-part k) x f g e h = own i j a (no-part k) x f e h
       at-shape i j a (one-part k p) x f g e (inl h) = own i j a (one-part k p) x f e h
       at-shape i j a (one-part k p) x f g e (inr h) = inr (g p refl h)

@@ -8,7 +8,8 @@ ghost use Rattle.routine.specs.Tree.{node, tree-at, contains, inside, can-end}
 ghost use Rattle.routine.specs.Meaning.{names, named, stray, is-local, signal-at, misuses, declares, encloses, in-scope, unscoped, endless};
 ghost use Rattle.routine.specs.View.{signals-of, kinds-of, count-of, PartsRise, fails, Checks};
 use crate::checked::Routine;
-use crate::kinds::{Kind, SignalKind};
+use crate::kinds::Kind;
+use crate::kinds::SignalKind;
 use crate::refusals::Refusal;
 use crate::tables::Table;
 
@@ -28,10 +29,15 @@ fn names(kind: Kind, part: usize) -> usize
 {
     match kind {
         Kind::Nothing | Kind::Stop | Kind::Emit { signal: _ } | Kind::Wait { signal: _ } => 0,
-        Kind::Loop { first } | Kind::Kill { signal: _, first } | Kind::Local { signal: _, first } => {
-            if part == first as usize { 1 } else { 0 }
-        }
-        Kind::Sequence { first, second } | Kind::Parallel { first, second } | Kind::When { signal: _, first, second } => {
+        Kind::Loop { first } | Kind::Kill { signal: _, first } | Kind::Local { signal: _, first } =>
+            { if part == first as usize { 1 } else { 0 } }
+        Kind::Sequence { first, second }
+        | Kind::Parallel { first, second }
+        | Kind::When {
+            signal: _,
+            first,
+            second,
+        } => {
             let left: usize = if part == first as usize { 1 } else { 0 };
             let right: usize = if part == second as usize { 1 } else { 0 };
             left + right
@@ -71,8 +77,8 @@ impl Table {
         ensures { λ r. ⌜ r ≡ named (kinds-of (now (self .entry))) (length (kinds-of (now (self .entry)))) a ⌝ }
     {
         let mut times = 0;
-        for i in 0..self.count() {
-            times += names(self.kind(i), a);
+        for k in 0..self.count() {
+            times += names(self.kind(k), a);
         }
         times
     }
@@ -85,15 +91,18 @@ impl Table {
         let kind = self.kind(i);
         k == i
             || match kind {
-                Kind::Nothing | Kind::Stop | Kind::Emit { signal: _ } | Kind::Wait { signal: _ } => false,
-                Kind::Loop { first } | Kind::Kill { signal: _, first } | Kind::Local { signal: _, first } => {
-                    self.contains(first as usize, k)
-                }
+                Kind::Nothing | Kind::Stop | Kind::Emit { signal: _ } | Kind::Wait { signal: _ } =>
+                    false,
+                Kind::Loop { first }
+                | Kind::Kill { signal: _, first }
+                | Kind::Local { signal: _, first } => { self.contains(first as usize, k) }
                 Kind::Sequence { first, second }
                 | Kind::Parallel { first, second }
-                | Kind::When { signal: _, first, second } => {
-                    self.contains(first as usize, k) || self.contains(second as usize, k)
-                }
+                | Kind::When {
+                    signal: _,
+                    first,
+                    second,
+                } => { self.contains(first as usize, k) || self.contains(second as usize, k) }
             }
     }
 
@@ -108,7 +117,11 @@ impl Table {
             Kind::Sequence { first, second } | Kind::Parallel { first, second } => {
                 self.can_end(first as usize) && self.can_end(second as usize)
             }
-            Kind::When { signal: _, first, second: _ }
+            Kind::When {
+                signal: _,
+                first,
+                second: _,
+            }
             | Kind::Kill { signal: _, first }
             | Kind::Local { signal: _, first } => self.can_end(first as usize),
         }
@@ -120,15 +133,18 @@ impl Table {
         ensures { λ r. ⌜ r ≡ inside (tree-at (kinds-of (now (self .entry))) i) k ⌝ }
     {
         match self.kind(i) {
-            Kind::Nothing | Kind::Stop | Kind::Emit { signal: _ } | Kind::Wait { signal: _ } => false,
-            Kind::Loop { first } | Kind::Kill { signal: _, first } | Kind::Local { signal: _, first } => {
-                self.contains(first as usize, k)
-            }
+            Kind::Nothing | Kind::Stop | Kind::Emit { signal: _ } | Kind::Wait { signal: _ } =>
+                false,
+            Kind::Loop { first }
+            | Kind::Kill { signal: _, first }
+            | Kind::Local { signal: _, first } => { self.contains(first as usize, k) }
             Kind::Sequence { first, second }
             | Kind::Parallel { first, second }
-            | Kind::When { signal: _, first, second } => {
-                self.contains(first as usize, k) || self.contains(second as usize, k)
-            }
+            | Kind::When {
+                signal: _,
+                first,
+                second,
+            } => { self.contains(first as usize, k) || self.contains(second as usize, k) }
         }
     }
 
@@ -138,7 +154,10 @@ impl Table {
         ensures { λ r. ⌜ r ≡ declares (kind-at (kinds-of (now (self .entry))) j) signal ⌝ }
     {
         match self.kind(j) {
-            Kind::Local { signal: own, first: _ } => own == signal,
+            Kind::Local {
+                signal: own,
+                first: _,
+            } => own == signal,
             _ => false,
         }
     }
@@ -189,7 +208,11 @@ impl Table {
         match self.kind(i) {
             Kind::Emit { signal }
             | Kind::Wait { signal }
-            | Kind::When { signal, first: _, second: _ }
+            | Kind::When {
+                signal,
+                first: _,
+                second: _,
+            }
             | Kind::Kill { signal, first: _ } => self.is_local(signal) && !self.in_scope(signal, i),
             Kind::Local { signal, first: _ } => self.declared_before(signal, i),
             _ => false,

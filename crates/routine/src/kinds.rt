@@ -5,7 +5,7 @@ ghost use Rattle.routine.specs.Texts.{kind-text};
 use std::fmt;
 
 // Who raises a signal: the world outside, the routine for the outside, or the routine for itself.
-#[derive(Clone, Copy, PartialEq, Eq, Debug)]
+#[derive(Clone, Copy)]
 pub enum SignalKind {
     Input,
     Output,
@@ -13,7 +13,7 @@ pub enum SignalKind {
 }
 
 // What a statement is. `first` and `second` are the numbers of its parts, `signal` that of its signal.
-#[derive(Clone, Copy, PartialEq, Eq, Debug)]
+#[derive(Clone, Copy)]
 pub enum Kind {
     Nothing,
     Stop,
@@ -28,7 +28,7 @@ pub enum Kind {
 }
 
 // How far a statement has come in a count.
-#[derive(Clone, Copy, PartialEq, Eq, Debug)]
+#[derive(Clone, Copy)]
 pub enum Mark {
     Idle,
     Waiting,
@@ -37,7 +37,7 @@ pub enum Mark {
 }
 
 // A statement: what it is, and its mark. It is idle until a count begins it.
-#[derive(Clone, Copy, PartialEq, Eq, Debug)]
+#[derive(Clone, Copy)]
 pub struct Statement {
     pub kind: Kind,
     pub mark: Mark,
@@ -47,7 +47,10 @@ impl Statement {
     pub fn new(kind: Kind) -> Self
         ensures { λ r. ⌜ r ≡ fresh kind ⌝ }
     {
-        Statement { kind, mark: Mark::Idle }
+        Statement {
+            kind,
+            mark: Mark::Idle,
+        }
     }
 
     pub fn set_mark(&mut self, mark: Mark)
@@ -68,10 +71,20 @@ pub impl fmt::Display for Kind as KindDisplay {
             Kind::Stop => write!(f, "stop"),
             Kind::Emit { signal } => write!(f, "emit {signal}"),
             Kind::Wait { signal } => write!(f, "wait {signal}"),
-            Kind::Sequence { first: _, second: _ } => write!(f, "sequence"),
-            Kind::Parallel { first: _, second: _ } => write!(f, "parallel"),
+            Kind::Sequence {
+                first: _,
+                second: _,
+            } => write!(f, "sequence"),
+            Kind::Parallel {
+                first: _,
+                second: _,
+            } => write!(f, "parallel"),
             Kind::Loop { first: _ } => write!(f, "loop"),
-            Kind::When { signal, first: _, second: _ } => write!(f, "when {signal}"),
+            Kind::When {
+                signal,
+                first: _,
+                second: _,
+            } => write!(f, "when {signal}"),
             Kind::Kill { signal, first: _ } => write!(f, "kill {signal}"),
             Kind::Local { signal, first: _ } => write!(f, "local {signal}"),
         }

@@ -10,7 +10,8 @@ ghost use Rattle.routine.specs.Tree.{node, tree, tree-at, occurs, size};
 ghost use Rattle.routine.specs.Meaning.{same, how-many};
 ghost use Rattle.routine.specs.View.{signals-of, kinds-of, count-of, tree-of, PartsRise};
 use crate::checked::Routine;
-use crate::kinds::{Kind, SignalKind};
+use crate::kinds::Kind;
+use crate::kinds::SignalKind;
 
 // 1 where the kinds are the same.
 fn tally(signal: SignalKind, kind: SignalKind) -> usize
@@ -43,7 +44,11 @@ impl Routine {
         ensures rise { λ r. ⌜ Cases r (count-of (now (self .entry) .table) ≤ i) (λ k. PartsRise (count-of (now (self .entry) .table)) i (shape k)) ⌝ }
         ensures level { λ r. ⌜ Cases r (count-of (now (self .entry) .table) ≤ i) (λ k. tree-at (kinds-of (now (self .entry) .table)) i ≡ node i (shape k) (tree-at (kinds-of (now (self .entry) .table)))) ⌝ }
     {
-        if i < self.table.count() { Some(self.table.kind(i)) } else { None }
+        if i < self.table.count() {
+            Some(self.table.kind(i))
+        } else {
+            None
+        }
     }
 
     // How many signals are of this kind.

@@ -7,7 +7,9 @@ ghost use Rattle.routine.specs.Layout.{Headed, signal-kind, spelled, rises, fi
 ghost use Rattle.std.specs.Of.Vec.{vec-items, vec-len};
 ghost use Rattle.routine.specs.Refusals.{Answers};
 ghost use Rattle.routine.specs.View.{content};
-use crate::kinds::{Kind, SignalKind, Statement};
+use crate::kinds::Kind;
+use crate::kinds::SignalKind;
+use crate::kinds::Statement;
 use crate::refusals::Refusal;
 use crate::refusals::RefusalFromAlloc;
 use crate::refusals::RefusalFromRefused;
@@ -64,7 +66,11 @@ fn spelled(kind: u8, signal: u8, first: u8, second: u8) -> Option<Kind>
         (4, 0, first, second) => Some(Kind::Sequence { first, second }),
         (5, 0, first, second) => Some(Kind::Parallel { first, second }),
         (6, 0, first, 0) => Some(Kind::Loop { first }),
-        (7, signal, first, second) => Some(Kind::When { signal, first, second }),
+        (7, signal, first, second) => Some(Kind::When {
+            signal,
+            first,
+            second,
+        }),
         (8, signal, first, 0) => Some(Kind::Kill { signal, first }),
         (9, signal, first, 0) => Some(Kind::Local { signal, first }),
         _ => None,
@@ -88,9 +94,11 @@ fn fits(signals: usize, count: usize, i: usize, kind: Kind) -> bool
             rises(count, i, first) && rises(count, i, second)
         }
         Kind::Loop { first } => rises(count, i, first),
-        Kind::When { signal, first, second } => {
-            (signal as usize) < signals && rises(count, i, first) && rises(count, i, second)
-        }
+        Kind::When {
+            signal,
+            first,
+            second,
+        } => { (signal as usize) < signals && rises(count, i, first) && rises(count, i, second) }
         Kind::Kill { signal, first } | Kind::Local { signal, first } => {
             (signal as usize) < signals && rises(count, i, first)
         }
@@ -110,7 +118,12 @@ fn read_signals(heap: Global, bytes: &[u8]) -> Result<Vec<SignalKind>, Refusal>
     Ok(made)
 }
 
-fn read_statements(heap: Global, bytes: &[u8], signals: usize, count: usize) -> Result<Vec<Statement>, Refusal>
+fn read_statements(
+    heap: Global,
+    bytes: &[u8],
+    signals: usize,
+    count: usize,
+) -> Result<Vec<Statement>, Refusal>
     ensures { λ r. ⌜ Answers (records-from signals count 0 (now (bytes .entry))) vec-items r ⌝ }
 {
     let mut made = Vec::new(heap);
@@ -139,5 +152,8 @@ pub fn read(heap: Global, bytes: &[u8]) -> Result<Table, Refusal>
     let split = 8 + signals;
     let made = read_signals(heap, &bytes[8..split])?;
     let statements = read_statements(heap, &bytes[split..], signals, count)?;
-    Ok(Table { signals: made, statements })
+    Ok(Table {
+        signals: made,
+        statements,
+    })
 }

@@ -44,7 +44,8 @@ impl Refusal {
                 "an unknown kind, an unused field that is not 0, a signal that is not there, or a part that is not above it"
             }
             Refusal::Parts { statement: _ } => "it is not named as a part exactly once",
-            Refusal::SignalUse { statement: _ } => "an emit of an input, or a local statement whose signal is not local",
+            Refusal::SignalUse { statement: _ } =>
+                "an emit of an input, or a local statement whose signal is not local",
             Refusal::Scope { statement: _ } => {
                 "a local signal outside its local statement, or a local statement with the signal of a lower one"
             }
@@ -58,7 +59,8 @@ impl Refusal {
             Refusal::NotReady { statement: _ } => "it is not ready",
             Refusal::NotOpenToClose => "no instant is open, so none can be closed",
             Refusal::StillReady { statement: _ } => "it is still ready",
-            Refusal::RecordForm => "the length, the contents or the zeros are not those of a record of this routine",
+            Refusal::RecordForm =>
+                "the length, the contents or the zeros are not those of a record of this routine",
             Refusal::RecordHead { offset: _ } => "the head of the record has a wrong field there",
             Refusal::RecordMarks { statement: _ } => "its mark is against the rules",
             Refusal::Memory => "out of memory",

@@ -7,7 +7,7 @@ use std::alloc::Refused;
 use std::fmt;
 
 // Why something was refused: a case for each refusal of the engine, by its layer. The field is its place.
-#[derive(Clone, Copy, PartialEq, Eq, Debug)]
+#[derive(Clone, Copy)]
 pub enum Refusal {
     // layer 1: the form of a table
     Form,
@@ -70,7 +70,8 @@ impl Refusal {
         ensures { λ r. ⌜ r ≡ layer-of (now (self .entry)) ⌝ }
     {
         match self {
-            Refusal::Form | Refusal::SignalKind { signal: _ } | Refusal::Record { statement: _ } => Some(1),
+            Refusal::Form | Refusal::SignalKind { signal: _ } | Refusal::Record { statement: _ } =>
+                Some(1),
             Refusal::Parts { statement: _ }
             | Refusal::SignalUse { statement: _ }
             | Refusal::Scope { statement: _ }
@@ -84,7 +85,9 @@ impl Refusal {
             | Refusal::NotReady { statement: _ }
             | Refusal::NotOpenToClose
             | Refusal::StillReady { statement: _ } => Some(3),
-            Refusal::RecordForm | Refusal::RecordHead { offset: _ } | Refusal::RecordMarks { statement: _ } => Some(4),
+            Refusal::RecordForm
+            | Refusal::RecordHead { offset: _ }
+            | Refusal::RecordMarks { statement: _ } => Some(4),
             Refusal::Memory => None,
         }
     }

@@ -33,8 +33,7 @@ census-same x y a b c d a′ b′ c′ d′ h p q r s =
 
 -- the line of statement i, and then the lines of its parts
 module _ (ks : List Kind) (d i : ℕ) (k : Kind) (t : Tree) (s₀ s₁ s₂ : List ℕ)
-  (level : t ≡ node i (shape k) (tree-at ks)) (own : k ≡ kind-at ks i) (line : s₁ ≡ s₀ ++ line-text d i k) where
-
+    (level : t ≡ node i (shape k) (tree-at ks)) (own : k ≡ kind-at ks i) (line : s₁ ≡ s₀ ++ line-text d i k) where
   pub outline-one : (o : One) (a : ℕ) → shape k ≡ one-part o a → s₂ ≡ s₁ ++ outline ks (d + 1) (tree-at ks a) → s₂ ≡ s₀ ++ outline ks d t
   outline-one o a e f =
       two-steps s₀ s₁ s₂ (line-text d i k) (outline ks (d + 1) (tree-at ks a)) line f
@@ -42,7 +41,7 @@ module _ (ks : List Kind) (d i : ℕ) (k : Kind) (t : Tree) (s₀ s₁ s₂ : Li
       ∙ ap (λ x. s₀ ++ outline ks d x) (sym (level ∙ ap (λ r. node i r (tree-at ks)) e))
 
   pub outline-two : (o : Two) (a b : ℕ) (s₃ : List ℕ) → shape k ≡ two-parts o a b → s₂ ≡ s₁ ++ outline ks (d + 1) (tree-at ks a)
-    → s₃ ≡ s₂ ++ outline ks (d + 1) (tree-at ks b) → s₃ ≡ s₀ ++ outline ks d t
+      → s₃ ≡ s₂ ++ outline ks (d + 1) (tree-at ks b) → s₃ ≡ s₀ ++ outline ks d t
   outline-two o a b s₃ e f g =
       two-steps s₀ s₁ s₃ (line-text d i k) (outline ks (d + 1) (tree-at ks a) ++ outline ks (d + 1) (tree-at ks b)) line (two-steps s₁ s₂ s₃ _ _ f g)
       ∙ ap (λ x. s₀ ++ (line-text d i x ++ (outline ks (d + 1) (tree-at ks a) ++ outline ks (d + 1) (tree-at ks b)))) own
@@ -50,5 +49,5 @@ module _ (ks : List Kind) (d i : ℕ) (k : Kind) (t : Tree) (s₀ s₁ s₂ : Li
 
 -- what a statement that is there is
 pub known : (r : Routine) (i : ℕ) (k : Kind) → i < count-of (r .table)
-  → Some k ≡ cond (ltb i (count-of (r .table))) (Some (kind-at (kinds-of (r .table)) i)) None → k ≡ kind-at (kinds-of (r .table)) i
+    → Some k ≡ cond (ltb i (count-of (r .table))) (Some (kind-at (kinds-of (r .table)) i)) None → k ≡ kind-at (kinds-of (r .table)) i
 known r i k l e = grind arith

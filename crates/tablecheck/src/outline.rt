@@ -33,7 +33,12 @@ fn write_line(out: &mut String, depth: usize, i: usize, kind: Kind) -> fmt::Resu
 }
 
 // The lines of statement i and of all that lies inside it.
-pub(crate) fn write_outline(out: &mut String, routine: &Routine, i: usize, depth: usize) -> fmt::Result
+pub(crate) fn write_outline(
+    out: &mut String,
+    routine: &Routine,
+    i: usize,
+    depth: usize,
+) -> fmt::Result
     requires within { ⌜ i < count-of (now routine .table) ⌝ }
     requires above { ⌜ depth ≤ i ⌝ }
     ensures { λ r. ⌜ made r (λ _. string-bytes (now (out .exit)) ≡ string-bytes (now (out .entry)) ++ outline (kinds-of (now (routine .entry) .table)) depth (tree-at (kinds-of (now (routine .entry) .table)) i)) ⌝ }
@@ -44,12 +49,17 @@ pub(crate) fn write_outline(out: &mut String, routine: &Routine, i: usize, depth
     write_line(out, depth, i, kind)?;
     match kind {
         Kind::Nothing | Kind::Stop | Kind::Emit { signal: _ } | Kind::Wait { signal: _ } => {}
-        Kind::Loop { first } | Kind::Kill { signal: _, first } | Kind::Local { signal: _, first } => {
-            write_outline(out, routine, first as usize, depth + 1)?;
-        }
+        Kind::Loop { first } | Kind::Kill { signal: _, first } | Kind::Local { signal: _, first } =>
+            {
+                write_outline(out, routine, first as usize, depth + 1)?;
+            }
         Kind::Sequence { first, second }
         | Kind::Parallel { first, second }
-        | Kind::When { signal: _, first, second } => {
+        | Kind::When {
+            signal: _,
+            first,
+            second,
+        } => {
             write_outline(out, routine, first as usize, depth + 1)?;
             write_outline(out, routine, second as usize, depth + 1)?;
         }

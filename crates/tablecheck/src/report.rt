@@ -33,7 +33,10 @@ fn write_census(out: &mut String, routine: &Routine) -> fmt::Result
     let outputs = routine.signals(SignalKind::Output);
     let locals = routine.signals(SignalKind::Local);
     let statements = routine.count();
-    writeln!(out, "inputs {inputs}, outputs {outputs}, locals {locals}, statements {statements}")?;
+    writeln!(
+        out,
+        "inputs {inputs}, outputs {outputs}, locals {locals}, statements {statements}"
+    )?;
     Ok(())
 }
 

@@ -28,9 +28,16 @@ ghost-result c =
     let s = c .in-Continue-made .ensures tt in
     let t = c .in-Continue-statements .ensures tt in
     let a = signals-many bytes g n (h .0) (h .1) (h .2) _ s _ t (h .3) in
-    let b = statements-many bytes g n (h .0) (h .1) (h .2) _ s _ t (h .3) in
-    (omega (arith, v .ok .0), (omega (arith, w .ok .0), (omega (arith, w .ok .0),
-     (formed bytes g n (h .0) (h .1) (h .2) _ s _ t (h .3) _ (omega (arith, v .ok .0)), tt))))
+    let b = statements-many bytes g n (h .0) (h .1) (h .2) _ s _ t (h .3) in (
+      omega (arith, v .ok .0),
+      (
+        omega (arith, w .ok .0),
+        (
+          omega (arith, w .ok .0),
+          (formed bytes g n (h .0) (h .1) (h .2) _ s _ t (h .3) _ (omega (arith, v .ok .0)), tt),
+        ),
+      ),
+    )
 
 pub returns : need.returns
 returns c =

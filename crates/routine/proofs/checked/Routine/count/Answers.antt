@@ -12,5 +12,5 @@ returns c =
       rows = c .count .ensures .rows;
       once = each-once r _ e;
       whole = all-statements r ∙ sym e;
-      fuel = λ deep l. any-fuel r deep (omega arith)
+      fuel = λ deep l. any-fuel r deep (omega arith);
     }

@@ -8,12 +8,12 @@ use Rattle.routine.specs.Meaning.{names, named}
 use Rattle.routine.specs.View.{kinds-of}
 use Rattle.routine.proofs.tables.Table.named.Needs as need
 
-pub loop-i-again : need.loop-i-again
-loop-i-again c =
+pub loop-k-again : need.loop-k-again
+loop-k-again c =
     let ks = kinds-of (c .args .self .now) in
     let e = c .names-times .ensures .value ∙ ap (λ k. names (shape k) (c .args .a)) (c .kind .ensures .value) in
-    let f = c .loop-i .inv .0 in
+    let f = c .loop-k .inv .0 in
     (rw add-one (omega arith), omega (arith, c .names-times .ensures .few))
 
 pub returns : need.returns
-returns c = c .loop-i .inv .0 ∙ ap (λ (n : ℕ). named (kinds-of (c .args .self .now)) n (c .args .a)) (omega (arith, c .count-i-end .ensures .listed))
+returns c = c .loop-k .inv .0 ∙ ap (λ (n : ℕ). named (kinds-of (c .args .self .now)) n (c .args .a)) (omega (arith, c .count-k-end .ensures .listed))

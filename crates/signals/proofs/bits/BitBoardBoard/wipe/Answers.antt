@@ -1,0 +1,6 @@
+use borrow.Author.Needs.{needs}
+use Rattle.signals.proofs.WordSets.{word-set-zero}
+use Rattle.signals.proofs.bits.BitBoardBoard.wipe.Needs as need
+
+pub returns : need.returns
+returns c = search (needs, word-set-zero)
