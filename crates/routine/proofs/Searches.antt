@@ -29,7 +29,7 @@ lowest-below P zero i h = grind arith
 lowest-below P (suc n) i h = let g = lowest-below P n i in grind arith
 
 -- what P is of each number below the bound where nothing is found, and of the number that is found
-abbrev Found : (ℕ → Bool) → ℕ → Option ℕ → Type 0
+abbrev pub Found : (ℕ → Bool) → ℕ → Option ℕ → Type 0
 Found P n None = (k : ℕ) → k < n → P k ≡ false
 Found P n (Some i) = P i ≡ true
 

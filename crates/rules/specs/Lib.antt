@@ -1,0 +1,6 @@
+pub mod Runs
+pub mod Rules
+pub mod Legal
+pub mod Model
+pub mod Theorems
+pub mod Worked
