@@ -11,7 +11,6 @@ use Rattle.rules.specs.Runs.{Run, Quiet, Perm, Out, count}
 use Rattle.rules.proofs.MarkedTrees.{Mark, idle, waiting, underway, done, Leaf, nothing, stop, emit, wait, One, loop, kill, local, Two, sequence, parallel, when}
 use Rattle.rules.proofs.MarkedTrees.{Marked, mleaf, mone, mtwo, begin, rest, Signals, Effect, quiet, raises, drops, apply, State, Scoped, Legal}
 use Rattle.rules.proofs.Potential.{size, Turns}
-
 pub use Rattle.rules.specs.Rules.{is-done, two-over, pick, shut}
 
 abbrev pub over : Marked → Bool
@@ -64,7 +63,7 @@ step e (mleaf n k m) i = pick (ℕ-discrete i n) (stepLeaf e n m k) none
 step e (mone n k m p) i = pick (ℕ-discrete i n) (stepOne n m k (over p) p) (cond (shut m k) none (inside (mone n k m) (step e p i)))
 step e (mtwo n k m p q) i =
     pick (ℕ-discrete i n) (stepTwo e n m k (over p) p q)
-      (orElse (inside (λ p′. mtwo n k m p′ q) (step e p i)) (inside (mtwo n k m p) (step e q i)))
+    (orElse (inside (λ p′. mtwo n k m p′ q) (step e p i)) (inside (mtwo n k m p) (step e q i)))
 
 -- the numbers of a tree are distinct
 abbrev pub Has : Marked → ℕ → Type 0
@@ -94,10 +93,9 @@ pub record Proper (s : State) : Type 0 where
 
 pub record Order-by-number : Type 0 where
   pub pull : (s z : State) (i : ℕ) (w : List ℕ) → Proper s → Steps s i → Run Steps go s w z → Quiet Steps z
-    → (v : List ℕ) × Out i w v × Run Steps go (go s i) v z
+      → (v : List ℕ) × Out i w v × Run Steps go (go s i) v z
   pub unique : (s z y : State) (w u : List ℕ) → Proper s → Run Steps go s w z → Quiet Steps z → Run Steps go s u y → Quiet Steps y
-    → (z ≡ y) × Perm w u
+      → (z ≡ y) × Perm w u
 
-pub record Ends-by-number : Type 0 where
-  pub bounded : (s z : State) (w : List ℕ) → Proper s → Turns (rest (s .0)) → Run Steps go s w z → length w ≤ 4 * size (s .0)
-  pub has-end : (s : State) → Proper s → Turns (rest (s .0)) → (w : List ℕ) × (z : State) × Run Steps go s w z × Quiet Steps z
+abbrev pub Ends-by-number : Type 0
+Ends-by-number = (s z : State) (w : List ℕ) → Proper s → Turns (rest (s .0)) → Run Steps go s w z → length w ≤ 4 * size (s .0)

@@ -64,7 +64,7 @@ uses-astray : (gs : List SignalKind) (ks : List Kind) (i : ℕ) (k : Kind) (s : 
 uses-astray gs ks i k s h u = grind arith
 
 binds-alone : (gs : List SignalKind) (ks : List Kind) (i : ℕ) (k : Kind) (s : ℕ) → unscoped gs ks i k ≡ false → Binds (shape k) s
-  → any (λ j. declares (kind-at ks j) s) i ≡ false
+    → any (λ j. declares (kind-at ks j) s) i ≡ false
 binds-alone gs ks i k s h b = grind arith
 
 astray-scope : (b c : Bool) → (b && not c) ≡ false → b ≡ true → c ≡ true
@@ -102,12 +102,15 @@ module _ (gs : List SignalKind) (ks : List Kind) (C : Checked gs ks) where
         inner-only = λ i s l b. binds-local gs (kind-at ks i) s (tests .uses i l) b;
         alone = λ i j s l m b c. let x = not-below i j s l b c in let y = not-below j i s m c b in omega arith;
         within = λ i s l u x.
-          let a = uses-astray gs ks i (kind-at ks i) s (tests .scopes i l) u in
-          let d = astray-scope (is-local (signal-at gs s)) (in-scope ks s i) a (ap is-local x) in
-          let f = any-says (encloses ks s i) (length ks) d in
-          let g = both _ _ (f .2) in
-          (f .0, f .1, declares-binds (kind-at ks (f .0)) s (g .0),
-           in-under ks rises (f .0) (f .1) i (contains-in (tree-at ks (f .0)) i (inside-contains (tree-at ks (f .0)) i (g .1))))
+            let a = uses-astray gs ks i (kind-at ks i) s (tests .scopes i l) u in
+            let d = astray-scope (is-local (signal-at gs s)) (in-scope ks s i) a (ap is-local x) in
+            let f = any-says (encloses ks s i) (length ks) d in
+            let g = both _ _ (f .2) in (
+              f .0,
+              f .1,
+              declares-binds (kind-at ks (f .0)) s (g .0),
+              in-under ks rises (f .0) (f .1) i (contains-in (tree-at ks (f .0)) i (inside-contains (tree-at ks (f .0)) i (g .1))),
+            );
       }
 
   pub table : Table ks gs
@@ -117,7 +120,7 @@ module _ (gs : List SignalKind) (ks : List Kind) (C : Checked gs ks) where
         shaped = rises;
         once = once gs ks (C .passed);
         scopes = scopes;
-        turning = λ i l. turning-says ks (kind-at ks i) (tests .loops i l)
+        turning = λ i l. turning-says ks (kind-at ks i) (tests .loops i l);
       }
 
 -- every routine is one
@@ -126,5 +129,5 @@ of-routine r =
     record {
       formed = subst (λ (g : ℕ). Formed g (kinds-of (r .table))) (r .table .signals .ok .0) (r .table .formed);
       some = some-statement r;
-      passed = r .passed
+      passed = r .passed;
     }

@@ -22,10 +22,11 @@ module _ (ks : List Kind) (sorts : List Sort) (T : Table ks sorts) where
   pub moves : (s : Flat) (k : ℕ) → Enabled ks s k → stepped (tree-at ks 0) s k ≡ moved ks s k
   moves s k r =
       elim (In-dec (tree-at ks 0) k) [
-        inl h ↦
-          let a = told ks (T .shaped) (T .once) (s .0) (s .1) k 0 (T .some-row) h in
-          ap₂ (λ (m : List Mark) (x : Signals). (m, x)) (a .marks) (ap (λ x. apply x (s .1)) (a .effects))
-      | inr d ↦ absurd (false-true (unready (tree-at ks 0) (s .0) (s .1) k d) r) ]
+        | inl h ↦
+            let a = told ks (T .shaped) (T .once) (s .0) (s .1) k 0 (T .some-row) h in
+            ap₂ (λ (m : List Mark) (x : Signals). (m, x)) (a .marks) (ap (λ x. apply x (s .1)) (a .effects))
+        | inr d ↦ absurd (false-true (unready (tree-at ks 0) (s .0) (s .1) k d) r)
+      ]
 
   to-root : {s z : Flat} {w : List ℕ} → Run (Enabled ks) (moved ks) s w z → Run (Readies (tree-at ks 0)) (stepped (tree-at ks 0)) s w z
   to-root still = still
@@ -36,5 +37,5 @@ module _ (ks : List Kind) (sorts : List Sort) (T : Table ks sorts) where
   orderless =
       record {
         same = λ s z y w u l g r q r′ q′. order-never-shows ks sorts T .same s z y w u l g (to-root r) q (to-root r′) q′;
-        bounded = λ s z w l g r. order-never-shows ks sorts T .bounded s z w l g (to-root r)
+        bounded = λ s z w l g r. order-never-shows ks sorts T .bounded s z w l g (to-root r);
       }

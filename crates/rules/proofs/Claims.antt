@@ -11,19 +11,11 @@ use Rattle.rules.proofs.Shapes.{Kind, tree-at, ready, begun, Flat, Readies}
 use Rattle.rules.proofs.Ended.{ended}
 use Rattle.rules.proofs.Parts.{fire, effect-of}
 use Rattle.rules.proofs.Tests.{Legal-marks}
-
 pub use Rattle.rules.specs.Model.{Ready as Enabled, stepped as moved}
 
 pub record Orderless (ks : List Kind) : Type 0 where
   pub same : (s z y : Flat) (w u : List ℕ) → length (s .0) ≡ length ks → Legal-marks ks (s .0)
-    → Run (Enabled ks) (moved ks) s w z → Quiet (Enabled ks) z → Run (Enabled ks) (moved ks) s u y → Quiet (Enabled ks) y
-    → (z ≡ y) × ((i : ℕ) → count ℕ-discrete i w ≡ count ℕ-discrete i u)
+      → Run (Enabled ks) (moved ks) s w z → Quiet (Enabled ks) z → Run (Enabled ks) (moved ks) s u y → Quiet (Enabled ks) y
+      → (z ≡ y) × ((i : ℕ) → count ℕ-discrete i w ≡ count ℕ-discrete i u)
   pub bounded : (s z : Flat) (w : List ℕ) → length (s .0) ≡ length ks → Legal-marks ks (s .0) → Run (Enabled ks) (moved ks) s w z
-    → length w ≤ 4 * length ks
-
--- from one instant to the next: legal marks stay so
-pub record Instants (ks : List Kind) : Type 0 where
-  pub starts : Legal-marks ks (begun (tree-at ks 0) (replicate (length ks) idle))
-  pub ends : (ms : List Mark) (e : Signals) → length ms ≡ length ks → Legal-marks ks ms → Legal-marks ks (ended (tree-at ks 0) ms e)
-  pub length-begun : (ms : List Mark) → length (begun (tree-at ks 0) ms) ≡ length ms
-  pub length-ended : (ms : List Mark) (e : Signals) → length (ended (tree-at ks 0) ms e) ≡ length ms
+      → length w ≤ 4 * length ks

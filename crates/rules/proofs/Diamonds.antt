@@ -1,4 +1,4 @@
--- (1), (2), (3): straight from the legal marks
+-- nothing is ready inside what is over or ready, and two steps can change places: straight from the legal marks
 use mathlib.Core.Path.{_≡_, refl, sym, _∙_, ap, subst}
 use mathlib.Core.Logic.{_⊎_, inl, inr}
 use mathlib.Core.Bool.{Bool, true, false, cond, not, _&&_, _||_}
@@ -21,7 +21,7 @@ module _ (e : Signals) where
   idle-quiet (mone n k m p) l b x r = let h = idle-quiet p in grind arith
   idle-quiet (mtwo n k m p q) l b x r = let h = idle-quiet p in let g = idle-quiet q in grind arith
 
-  -- (1)
+  -- nothing is ready inside what is over
   pub over-quiet : (t : Marked) → Legal t → Over t → (x : Pos) → ¬ (Ready e t x)
   over-quiet (mleaf n k m) l o x r = grind arith
   over-quiet (mone n k m p) l o x r = let h = idle-quiet p in grind arith
@@ -36,7 +36,7 @@ module _ (e : Signals) where
       let h = over-quiet q in let j = idle-quiet p in let u = idle-not-over q in
       grind arith
 
-  -- (2)
+  -- nor inside what is ready
   pub one-alone : (n : ℕ) (k : One) (m : Mark) (p : Marked) → Legal (mone n k m p) → ReadyOne m k p → Opened m k → (x : Pos) → ¬ (Ready e p x)
   one-alone n k m p l r o x r′ = let h = idle-quiet p in let g = over-quiet p in grind arith
 
@@ -61,18 +61,18 @@ abbrev Grows : Marked → Type 0
 Grows t = Legal t × (live t ≡ true)
 
 one-grows : (e : Signals) (n : ℕ) (k : One) (m : Mark) (p : Marked) (x : Pos) → Legal (mone n k m p) → ((x : Pos) → Ready e p x → Grows (after p x))
-  → Ready e (mone n k m p) x → Grows (after (mone n k m p) x)
+    → Ready e (mone n k m p) x → Grows (after (mone n k m p) x)
 one-grows e n k m p x l h r = let b = begin-legal p in let c = rest-legal p in let i = idle-quiet e p in grind arith
 
 two-grows : (e : Signals) (n : ℕ) (k : Two) (m : Mark) (p q : Marked) → Legal (mtwo n k m p q) → ReadyTwo e m k p → Grows (after (mtwo n k m p q) here)
 two-grows e n k m p q l r = let b = begin-legal p in let b′ = begin-legal q in let c = rest-legal p in let o = idle-not-over p in grind arith
 
 left-grows : (e : Signals) (n : ℕ) (k : Two) (m : Mark) (p q : Marked) (x : Pos) → Legal (mtwo n k m p q) → Ready e p x → Grows (after p x)
-  → Grows (mtwo n k m (after p x) q)
+    → Grows (mtwo n k m (after p x) q)
 left-grows e n k m p q x l r h = let i = idle-quiet e p in grind arith
 
 right-grows : (e : Signals) (n : ℕ) (k : Two) (m : Mark) (p q : Marked) (x : Pos) → Legal (mtwo n k m p q) → Ready e q x → Grows (after q x)
-  → Grows (mtwo n k m p (after q x))
+    → Grows (mtwo n k m p (after q x))
 right-grows e n k m p q x l r h = let i = idle-quiet e q in grind arith
 
 pub after-legal : (e : Signals) (t : Marked) → Legal t → (x : Pos) → Ready e t x → Grows (after t x)
@@ -108,12 +108,12 @@ swap f g d e = grind (arith, set-set, set-comm)
 
 -- p's scopes against q: what is local to the one is not named in the other
 beside : (f g : Effect) (p q : Marked) → ((s : ℕ) → Binds p s → ¬ (Names q s)) → ((s : ℕ) → Binds q s → ¬ (Names p s))
-  → Touches f p → Touches g q → Apart f g
+    → Touches f p → Touches g q → Apart f g
 beside f g p q c d h k = grind arith
 
 -- what is present stays so under an effect that drops nothing named here
 spares : (e : Signals) (f : Effect) (p q : Marked) → ((s : ℕ) → Binds p s → ¬ (Names q s)) → Touches f p
-  → (s : ℕ) → Names q s → Present e s → Present (apply f e) s
+    → (s : ℕ) → Names q s → Present e s → Present (apply f e) s
 spares e f p q c h s k r = grind (arith, set-more, set-other)
 
 module _ (e e′ : Signals) where
@@ -133,9 +133,10 @@ abbrev Clear : Marked → Marked → Type 0
 Clear p q = ((s : ℕ) → Binds (rest p) s → ¬ (Names (rest q) s)) × ((s : ℕ) → Binds (rest q) s → ¬ (Names (rest p) s))
 
 aside : (e : Signals) (p q : Marked) → Clear p q → (x y : Pos) → Ready e q y → Ready (apply (eff p x) e) q y × Apart (eff p x) (eff q y)
-aside e p q c x y r =
-    (still e (apply (eff p x) e) q y (spares e (eff p x) (rest p) (rest q) (c .0) (touches p x)) r,
-     beside (eff p x) (eff q y) (rest p) (rest q) (c .0) (c .1) (touches p x) (touches q y))
+aside e p q c x y r = (
+  still e (apply (eff p x) e) q y (spares e (eff p x) (rest p) (rest q) (c .0) (touches p x)) r,
+  beside (eff p x) (eff q y) (rest p) (rest q) (c .0) (c .1) (touches p x) (touches q y),
+)
 
 module _ (e : Signals) where
   joins : (t : Marked) → Legal t → Scoped (rest t) → (i j : Pos) → ¬ (i ≡ j) → Ready e t i → Ready e t j → Joins e t i j
@@ -170,11 +171,11 @@ diamond =
     record {
       keep = λ s i f r. (after-legal (s .1) (s .0) (f .0) i r .0, subst Scoped (sym (rest-after (s .0) i)) (f .1));
       join = λ s i j f d r r′.
-        let h = joins (s .1) (s .0) (f .0) (f .1) i j d r r′ in
-        let g = joins (s .1) (s .0) (f .0) (f .1) j i (λ e. d (sym e)) r′ r in
-        let k₁ = h .same in
-        let k₂ = h .kind in
-        let k₃ = g .kind in
-        let k₄ = swap (eff (s .0) i) (eff (s .0) j) (h .apart) (s .1) in
-        (h .ready, cc)
+          let h = joins (s .1) (s .0) (f .0) (f .1) i j d r r′ in
+          let g = joins (s .1) (s .0) (f .0) (f .1) j i (λ e. d (sym e)) r′ r in
+          let k₁ = h .same in
+          let k₂ = h .kind in
+          let k₃ = g .kind in
+          let k₄ = swap (eff (s .0) i) (eff (s .0) j) (h .apart) (s .1) in
+          (h .ready, cc);
     }

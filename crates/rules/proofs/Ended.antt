@@ -8,7 +8,6 @@ use Rattle.rules.proofs.MarkedTrees.{Mark, idle, waiting, underway, done, Leaf
 use Rattle.rules.proofs.MarkedTrees.{Marked, mleaf, mone, mtwo, rest, begin, Signals}
 use Rattle.rules.proofs.ByNumber.{is-done, two-over, over as overT}
 use Rattle.rules.proofs.Shapes.{Tree, leaf, one, two, at, begun, idled, over}
-
 pub use Rattle.rules.specs.Rules.{leaf-ended, one-ended, two-ended, ended}
 
 abbrev pub close0 : Mark → Leaf → Mark

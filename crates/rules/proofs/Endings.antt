@@ -19,11 +19,11 @@ use Rattle.rules.proofs.Steps.{set-own, begun-own, idled-own}
 
 -- the parts' facts only at the lists that are met: with the general fact in reach `grind` takes it at ever more lists
 end1-kept : (n : ℕ) (m : Mark) (k : One) (p : Tree) (go : List Mark → List Mark) (ms : List Mark) (e : Signals)
-  → Kept (In p) ms (go ms) → Kept (In p) (set ms n waiting) (go (set ms n waiting)) → Kept (In (one n k p)) ms (one-ended n m k p go ms e)
+    → Kept (In p) ms (go ms) → Kept (In p) (set ms n waiting) (go (set ms n waiting)) → Kept (In (one n k p)) ms (one-ended n m k p go ms e)
 end1-kept n m k p go ms e a b = let c = idled-kept p (set ms n done) in grind (arith, length-set, getD-set-other)
 
 end2-kept : (n : ℕ) (m : Mark) (k : Two) (o : Bool) (p q : Tree) (go go′ : List Mark → List Mark) (ms : List Mark)
-  → Kept (In p) ms (go ms) → Kept (In q) (go ms) (go′ (go ms)) → Kept (In (two n k p q)) ms (two-ended n m k o q go go′ ms)
+    → Kept (In p) ms (go ms) → Kept (In q) (go ms) (go′ (go ms)) → Kept (In (two n k p q)) ms (two-ended n m k o q go go′ ms)
 end2-kept n m k o p q go go′ ms a b = let c = begun-kept q (set ms n underway) in grind (arith, length-set, getD-set-other)
 
 pub ended-kept : (t : Tree) (ms : List Mark) (e : Signals) → Kept (In t) ms (ended t ms e)
@@ -34,8 +34,8 @@ ended-kept (two n k p q) ms e =
 
 module _ (N : ℕ) (e : Signals) where
   one-ends : (n : ℕ) (m : Mark) (k : One) (p : Tree) (ms : List Mark) → m ≡ at ms n → ¬ (In p n) → Distinct (blank p) → Fits N p → length ms ≡ N → n < N
-    → ((ns : List Mark) → length ns ≡ N → marked p (ended p ns e) ≡ close e (marked p ns))
-    → marked (one n k p) (one-ended n m k p (λ ns. ended p ns e) ms e) ≡ close1 e n m k (marked p ms) (close e (marked p ms))
+      → ((ns : List Mark) → length ns ≡ N → marked p (ended p ns e) ≡ close e (marked p ns))
+      → marked (one n k p) (one-ended n m k p (λ ns. ended p ns e) ms e) ≡ close1 e n m k (marked p ms) (close e (marked p ms))
   one-ends n m k p ms x d g f l b h =
       let a₁ = h ms l in
       let a₂ = h (set ms n waiting) (length-set ms n waiting ∙ l) in
@@ -47,9 +47,9 @@ module _ (N : ℕ) (e : Signals) where
       grind arith
 
   two-ends : (n : ℕ) (m : Mark) (k : Two) (o : Bool) (p q : Tree) (ms : List Mark) → m ≡ at ms n → Distinct (blank (two n k p q)) → Fits N (two n k p q) → length ms ≡ N
-    → marked p (ended p ms e) ≡ close e (marked p ms)
-    → ((ns : List Mark) → length ns ≡ N → marked q (ended q ns e) ≡ close e (marked q ns))
-    → marked (two n k p q) (two-ended n m k o q (λ ns. ended p ns e) (λ ns. ended q ns e) ms)
+      → marked p (ended p ms e) ≡ close e (marked p ms)
+      → ((ns : List Mark) → length ns ≡ N → marked q (ended q ns e) ≡ close e (marked q ns))
+      → marked (two n k p q) (two-ended n m k o q (λ ns. ended p ns e) (λ ns. ended q ns e) ms)
       ≡ close2 n m k o (marked p ms) (marked q ms) (close e (marked p ms)) (close e (marked q ms))
   two-ends n m k o p q ms x d f l h g =
       let ns = ended p ms e in
@@ -87,7 +87,7 @@ begin-legal (mone n k m p) l b = let h = begin-legal p in grind arith
 begin-legal (mtwo n k m p q) l b = let h = begin-legal p in let g = begin-legal q in grind arith
 
 two-closes : (n : ℕ) (k : Two) (m : Mark) (o : Bool) (p q c d : Marked) → Legal (mtwo n k m p q) → Legal c × (live c ≡ live p) → Legal d × (live d ≡ live q)
-  → (live q ≡ false → Legal (begin q) × (live (begin q) ≡ true)) → Legal (close2 n m k o p q c d) × (live (close2 n m k o p q c d) ≡ is-live m)
+    → (live q ≡ false → Legal (begin q) × (live (begin q) ≡ true)) → Legal (close2 n m k o p q c d) × (live (close2 n m k o p q c d) ≡ is-live m)
 two-closes n k idle o p q c d l h g b = (l, refl)
 two-closes n sequence waiting o p q c d l h g b = (l, refl)
 two-closes n parallel waiting o p q c d l h g b = (l, refl)

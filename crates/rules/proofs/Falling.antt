@@ -66,7 +66,7 @@ fresh (mtwo n k m p q) l b =
     two-fresh n k m p q (idle-left q (u .1)) (idle-may q (u .1)) (fresh p (l .1) (u .0)) (fresh q (l .2) (u .1))
 
 may-two : (m : Mark) (k : Two) (p q : Marked) (f g : Bool) → two-legal m k (live p) (live q) ≡ true → Legal p → Legal q → (Over p → may p ≡ true) → (Over q → may q ≡ true)
-  → (n : ℕ) → Over (mtwo n k m p q) → mayTwo m k (may p) (may q) f g ≡ true
+    → (n : ℕ) → Over (mtwo n k m p q) → mayTwo m k (may p) (may q) f g ≡ true
 may-two m k p q f g o l l′ h h′ n w =
     let i = idle-may p in let j = idle-not-over p in let k = idle-not-over q in
     grind arith
@@ -81,27 +81,27 @@ pub record Falls (t u : Marked) : Type 0 where
   pub never : may u ≡ true → may t ≡ true
 
 one-here : (n : ℕ) (k : One) (m : Mark) (p : Marked) → one-legal m k (live p) ≡ true → Loops k (ends p) → ReadyOne m k p
-  → (live p ≡ false → Fresh p) → (Over p → may p ≡ true) → most (rest p) ≡ most p → Falls (mone n k m p) (afterOne n m k p)
+    → (live p ≡ false → Fresh p) → (Over p → may p ≡ true) → most (rest p) ≡ most p → Falls (mone n k m p) (afterOne n m k p)
 one-here n k m p o c r f g h = grind arith
 
 one-left : (n : ℕ) (k : One) (m : Mark) (p q : Marked) → one-legal m k (live p) ≡ true → live p ≡ true → Opened m k → most q ≡ most p → Falls p q
-  → Falls (mone n k m p) (mone n k m q)
+    → Falls (mone n k m p) (mone n k m q)
 one-left n k m p q o b w h f = grind arith
 
 two-here : (e : Signals) (n : ℕ) (k : Two) (m : Mark) (p q : Marked) → two-legal m k (live p) (live q) ≡ true → ReadyTwo e m k p
-  → (live p ≡ false → Fresh p) → (live q ≡ false → Fresh q) → (live q ≡ false → (steps-left q ≡ 0) × (may q ≡ false))
-  → (Over p → may p ≡ true) → (live p ≡ false → ¬ (Over p)) → steps-left (rest p) ≡ 0 → may (rest p) ≡ false
-  → Falls (mtwo n k m p q) (afterTwo n m k p q)
+    → (live p ≡ false → Fresh p) → (live q ≡ false → Fresh q) → (live q ≡ false → (steps-left q ≡ 0) × (may q ≡ false))
+    → (Over p → may p ≡ true) → (live p ≡ false → ¬ (Over p)) → steps-left (rest p) ≡ 0 → may (rest p) ≡ false
+    → Falls (mtwo n k m p q) (afterTwo n m k p q)
 two-here e n k m p q o r f g i h w a b = grind arith
 
 two-left : (n : ℕ) (k : Two) (m : Mark) (p q u : Marked) → two-legal m k (live p) (live q) ≡ true → live p ≡ true
-  → (live q ≡ false → may q ≡ false) → Falls p u → Falls (mtwo n k m p q) (mtwo n k m u q)
+    → (live q ≡ false → may q ≡ false) → Falls p u → Falls (mtwo n k m p q) (mtwo n k m u q)
 two-left n sequence m p q u o b i f = grind arith
 two-left n parallel m p q u o b i f = grind arith
 two-left n (when s) m p q u o b i f = grind arith
 
 two-right : (n : ℕ) (k : Two) (m : Mark) (p q u : Marked) → two-legal m k (live p) (live q) ≡ true → live q ≡ true
-  → (live p ≡ false → may p ≡ false) → most u ≡ most q → ends u ≡ ends q → Falls q u → Falls (mtwo n k m p q) (mtwo n k m p u)
+    → (live p ≡ false → may p ≡ false) → most u ≡ most q → ends u ≡ ends q → Falls q u → Falls (mtwo n k m p q) (mtwo n k m p u)
 two-right n sequence m p q u o b i a c f = grind arith
 two-right n parallel m p q u o b i a c f = grind arith
 two-right n (when s) m p q u o b i a c f = grind arith
@@ -122,7 +122,7 @@ module _ (e : Signals) where
   falls (mtwo n k m p q) l c here r =
       let i = rest-legal p .1 in
       two-here e n k m p q (l .0) r (fresh p (l .1)) (fresh q (l .2)) (λ b. (idle-left q b, idle-may q b)) (over-may p (l .1)) (idle-not-over p (l .1))
-        (idle-left (rest p) i) (idle-may (rest p) i)
+      (idle-left (rest p) i) (idle-may (rest p) i)
   falls (mtwo n k m p q) l c (left x) r = two-left n k m p q (after p x) (l .0) (ready-live p (l .1) x r) (idle-may q) (falls p (l .1) (c .0) x r)
   falls (mtwo n k m p q) l c (right x) r =
       two-right n k m p q (after q x) (l .0) (ready-live q (l .2) x r) (idle-may p) (most-after q x) (ends-after q x) (falls q (l .2) (c .1) x r)
@@ -151,8 +151,8 @@ seq-2 : (n : ℕ) (p q : Marked) → (steps-left p ≡ 0) × (may p ≡ false) �
 seq-2 n p q w g = grind arith
 
 two-bounded : (n : ℕ) (k : Two) (m : Mark) (p q : Marked) → two-legal m k (live p) (live q) ≡ true → most p ≤ 2 * size p → most q ≤ 2 * size q
-  → (live p ≡ false → (steps-left p ≡ 0) × (may p ≡ false)) → (live q ≡ false → (steps-left q ≡ 0) × (may q ≡ false))
-  → Bounded p → Bounded q → Bounded (mtwo n k m p q)
+    → (live p ≡ false → (steps-left p ≡ 0) × (may p ≡ false)) → (live q ≡ false → (steps-left q ≡ 0) × (may q ≡ false))
+    → Bounded p → Bounded q → Bounded (mtwo n k m p q)
 two-bounded n sequence idle p q o a b i j h g = grind arith
 two-bounded n sequence waiting p q o a b i j h g = grind arith
 two-bounded n sequence underway p q o a b i j h g =
@@ -166,7 +166,7 @@ bounded (mleaf n k m) l = grind arith
 bounded (mone n k m p) l = one-bounded n k m p (most-size p) (bounded p (l .1))
 bounded (mtwo n k m p q) l =
     two-bounded n k m p q (l .0) (most-size p) (most-size q) (λ b. (idle-left p b, idle-may p b)) (λ b. (idle-left q b, idle-may q b))
-      (bounded p (l .1)) (bounded q (l .2))
+    (bounded p (l .1)) (bounded q (l .2))
 
 run-falls : {s z : State} {w : List Pos} → Fine s → Turns (rest (s .0)) → Run Can next s w z → length w + steps-left (z .0) ≤ steps-left (s .0)
 run-falls f c still = omega arith

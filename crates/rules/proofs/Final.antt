@@ -24,6 +24,4 @@ module _ (ks : List Kind) (sorts : List Sort) (T : Table ks sorts) where
       record {
         same = λ s z y w u l g. E .same s z y w u l (to-legal (s .0) g);
         bounded = λ s z w l g. E .bounded s z w l (to-legal (s .0) g);
-        has-end = λ s l g. E .has-end s l (to-legal (s .0) g);
-        legal = λ s z w l g r. from-legal (z .0) (stays-legal (length ks) (tree-at ks 0) S l (to-legal (s .0) g) r)
       }

@@ -19,7 +19,6 @@ use Rattle.rules.proofs.Shapes.{Tree, leaf, one, two, blank, at, marked, ready
 use Rattle.rules.proofs.Flat.{Sound, Same-end}
 use Rattle.rules.proofs.Frames.{In, Fits, marked-rest}
 use Rattle.rules.proofs.Steps.{result, step-same, fired-kept}
-use Rattle.rules.proofs.Sizes.{size-most}
 
 -- a tree tells its marks
 same-marks : (t : Tree) (ms ns : List Mark) → marked t ms ≡ marked t ns → (i : ℕ) → In t i → at ms i ≡ at ns i
@@ -54,7 +53,7 @@ module _ (N : ℕ) (t : Tree) (S : Sound N t) where
   from-tree s i l st = let a = steps-are s i l in let b = st .1 in grind arith
 
   run-to : {s z : Flat} {w : List ℕ} → length (s .0) ≡ N → Run (Readies t) (stepped t) s w z
-    → Run Steps go (sim s) w (sim z) × (length (z .0) ≡ N)
+      → Run Steps go (sim s) w (sim z) × (length (z .0) ≡ N)
   run-to l still = (still, l)
   run-to {s = s} {z = z} l (then {i = i} {w = w} r h) =
       let a = to-tree s i l r in
@@ -75,14 +74,6 @@ module _ (N : ℕ) (t : Tree) (S : Sound N t) where
       let b : z .1 ≡ y .1 = ap (λ (u : State). u .1) e in
       ap₂ (λ (m : List Mark) (x : Signals). (m, x)) a b
 
-  run-from : {u v : State} {w : List ℕ} (s : Flat) → length (s .0) ≡ N → u ≡ sim s → Run Steps go u w v
-    → (z : Flat) × Run (Readies t) (stepped t) s w z × (v ≡ sim z) × (length (z .0) ≡ N)
-  run-from s l e still = (s, still, e, l)
-  run-from s l e (then {i = i} st h) =
-      let r = from-tree s i l (subst (λ (u : State). Steps u i) e st) in
-      let b = run-from (stepped t s i) (keeps s i l) (ap (λ (u : State). go u i) e ∙ to-tree s i l r .1) h in
-      (b .0, then r (b .1), b .2, b .3)
-
   size-same : (u : Tree) (ms : List Mark) → size (marked u ms) ≡ size (blank u)
   size-same (leaf n k) ms = refl
   size-same (one n k p) ms = let a = size-same p ms in omega arith
@@ -92,20 +83,16 @@ module _ (N : ℕ) (t : Tree) (S : Sound N t) where
   same-end =
       record {
         same = λ s z y w u l g r q r′ q′.
-          let a = run-to l r in
-          let b = run-to l r′ in
-          let k = order-by-number .unique (sim s) (sim z) (sim y) w u (proper s g) (a .0) (quiet-to z (a .1) q) (b .0) (quiet-to y (b .1) q′) in
-          (sim-inj z y (a .1) (b .1) (k .0), λ i. perm-counts i (k .1));
+            let a = run-to l r in
+            let b = run-to l r′ in
+            let k = order-by-number .unique (sim s) (sim z) (sim y) w u (proper s g) (a .0) (quiet-to z (a .1) q) (b .0) (quiet-to y (b .1) q′) in
+            (sim-inj z y (a .1) (b .1) (k .0), λ i. perm-counts i (k .1));
         bounded = λ s z w l g r.
-          let a = run-to l r in
-          let b = ends-by-number .bounded (sim s) (sim z) w (proper s g) (subst Turns (sym (marked-rest t (s .0))) (S .turns)) (a .0) in
-          let c = size-same t (s .0) in
-          let d = size-most (blank t) N (S .distinct) (S .below) in
-          omega arith;
-        has-end = λ s l g.
-          let a = ends-by-number .has-end (sim s) (proper s g) (subst Turns (sym (marked-rest t (s .0))) (S .turns)) in
-          let b = run-from s l refl (a .2) in
-          (a .0, b .0, b .1, λ i r. a .3 i (subst (λ (u : State). Steps u i) (sym (b .2)) (to-tree (b .0) i (b .3) r .0)))
+            let a = run-to l r in
+            let b = ends-by-number (sim s) (sim z) w (proper s g) (subst Turns (sym (marked-rest t (s .0))) (S .turns)) (a .0) in
+            let c = size-same t (s .0) in
+            let d = S .small in
+            omega arith;
       }
 
   pub stays-legal : {s z : Flat} {w : List ℕ} → length (s .0) ≡ N → Legal (marked t (s .0)) → Run (Readies t) (stepped t) s w z → Legal (marked t (z .0))
@@ -116,7 +103,7 @@ module _ (N : ℕ) (t : Tree) (S : Sound N t) where
       stays-legal (keeps s i l) (subst (λ (u : State). Legal (u .0)) (a .1) (b .legal)) h
 
   pub falls-here : (s : Flat) (i : ℕ) → length (s .0) ≡ N → Legal (marked t (s .0)) → Readies t s i
-    → steps-left (marked t (stepped t s i .0)) < steps-left (marked t (s .0))
+      → steps-left (marked t (stepped t s i .0)) < steps-left (marked t (s .0))
   falls-here s i l g r =
       let a = to-tree s i l r in
       let b = to-pos (proper s g) (a .0) in
@@ -129,5 +116,5 @@ module _ (N : ℕ) (t : Tree) (S : Sound N t) where
   left-most s g =
       let a = instant-ends (sim s) (sim s) [] (fine (proper s g)) (subst Turns (sym (marked-rest t (s .0))) (S .turns)) still in
       let c = size-same t (s .0) in
-      let d = size-most (blank t) N (S .distinct) (S .below) in
+      let d = S .small in
       omega arith

@@ -26,24 +26,24 @@ use Rattle.rules.proofs.Own.{told, unreached}
 
 -- a statement that is ready stands at a position that is
 at-position : (N : ℕ) (e : Signals) (j : ℕ) (t : Tree) (ms : List Mark) → Distinct (blank t) → Fits N t → length ms ≡ N → Legal (marked t ms)
-  → ready t ms e j ≡ true → (x : Pos) × Ready e (marked t ms) x
+    → ready t ms e j ≡ true → (x : Pos) × Ready e (marked t ms) x
 at-position N e j t ms d f l g r =
     let a = rw r at (step-same N e j t ms d f l) in
     let p = step-to e j (marked t ms) g _ a in
     (p .0, p .2)
 
 over-none : (N : ℕ) (e : Signals) (j : ℕ) (t : Tree) (ms : List Mark) → Distinct (blank t) → Fits N t → length ms ≡ N → Legal (marked t ms)
-  → over t ms ≡ true → ¬ (ready t ms e j ≡ true)
+    → over t ms ≡ true → ¬ (ready t ms e j ≡ true)
 over-none N e j t ms d f l g o r =
     let p = at-position N e j t ms d f l g r in
     over-quiet e (marked t ms) g (over-says (marked t ms) g (sym (over-same t ms) ∙ o)) (p .0) (p .1)
 
 one-own : (m : Mark) (k : One) (o : Bool) (p : Marked) → one-legal m k (live p) ≡ true → (live p ≡ false → ¬ (o ≡ true)) → (o ≡ true → Over p)
-  → one-rule m k o ≡ true → ReadyOne m k p
+    → one-rule m k o ≡ true → ReadyOne m k p
 one-own m k o p g i f h = grind arith
 
 two-own : (e : Signals) (m : Mark) (k : Two) (o : Bool) (p q : Marked) → two-legal m k (live p) (live q) ≡ true → (live p ≡ false → ¬ (o ≡ true)) → (o ≡ true → Over p)
-  → two-rule e m k o ≡ true → ReadyTwo e m k p
+    → two-rule e m k o ≡ true → ReadyTwo e m k p
 two-own e m k o p q g i f h = grind arith
 
 not-shut : (m : Mark) (k : One) → shut m k ≡ false → Opened m k
@@ -77,10 +77,13 @@ module _ (N : ℕ) (e : Signals) (ms : List Mark) (l : length ms ≡ N) (j : ℕ
       let o = over-same p ms in
       let own = two-own e (at ms n) k (over p ms) (marked p ms) (marked q ms) (g .0) (λ b w. idle-over (marked p ms) (g .1) b (sym o ∙ w)) (λ w. over-says (marked p ms) (g .1) (sym o ∙ w)) r in
       let ne : ¬ (j ≡ n) = λ z. elim (either (contains p j) (contains q j) h) [
-          inl u ↦ d .0 (subst (In p) z (contains-has p j u)) | inr u ↦ d .1 (subst (In q) z (contains-has q j u)) ] in
+        | inl u ↦ d .0 (subst (In p) z (contains-has p j u))
+        | inr u ↦ d .1 (subst (In q) z (contains-has q j u))
+      ] in
       elim (either (ready p ms e j) (ready q ms e j) (off-two j n (two-rule e (at ms n) k (over p ms)) (ready p ms e j) (ready q ms e j) ne w)) [
-        inl u ↦ let x = at-position N e j p ms (d .3) (λ i v. f i (inr (inl v))) l (g .1) u in two-alone e n k (at ms n) (marked p ms) (marked q ms) g own (x .0) (inl (x .1))
-      | inr u ↦ let x = at-position N e j q ms (d .4) (λ i v. f i (inr (inr v))) l (g .2) u in two-alone e n k (at ms n) (marked p ms) (marked q ms) g own (x .0) (inr (x .1)) ]
+        | inl u ↦ let x = at-position N e j p ms (d .3) (λ i v. f i (inr (inl v))) l (g .1) u in two-alone e n k (at ms n) (marked p ms) (marked q ms) g own (x .0) (inl (x .1))
+        | inr u ↦ let x = at-position N e j q ms (d .4) (λ i v. f i (inr (inr v))) l (g .2) u in two-alone e n k (at ms n) (marked p ms) (marked q ms) g own (x .0) (inr (x .1))
+      ]
 
 module _ (ks : List Kind) (S : Rising ks) (O : Once ks) (ms : List Mark) (i j : ℕ) (h : In (tree-at ks i) j) (li : i < length ks) where
   -- what is reached from above is reached from any statement around it
@@ -90,12 +93,12 @@ module _ (ks : List Kind) (S : Rising ks) (O : Once ks) (ms : List Mark) (i j : 
   reached-down : (a : ℕ) → a < length ks → In (tree-at ks a) i → reached (tree-at ks a) ms j ≡ true → reached (tree-at ks i) ms j ≡ true
   reached-down = trees ks S (λ a t. In t i → reached t ms j ≡ true → reached (tree-at ks i) ms j ≡ true)
       (λ a l g. at-shape a (shape-at ks a) (λ z. subst (λ b. tree-at ks b ≡ node a (shape-at ks a) (tree-at ks)) (sym z) (unroll ks S a l))
-        (subst (λ t. Distinct (blank t)) (unroll ks S a l) (distinct ks S O a l)) (λ p b. S a l p b .1) g)
+      (subst (λ t. Distinct (blank t)) (unroll ks S a l) (distinct ks S O a l)) (λ p b. S a l p b .1) g)
     where
       at-shape : (a : ℕ) (r : Shape) → (i ≡ a → tree-at ks i ≡ node a r (tree-at ks)) → Distinct (blank (node a r (tree-at ks)))
-        → ((p : ℕ) → Part r p → p < length ks)
-        → ((p : ℕ) → Part r p → In (tree-at ks p) i → reached (tree-at ks p) ms j ≡ true → reached (tree-at ks i) ms j ≡ true)
-        → In (node a r (tree-at ks)) i → reached (node a r (tree-at ks)) ms j ≡ true → reached (tree-at ks i) ms j ≡ true
+          → ((p : ℕ) → Part r p → p < length ks)
+          → ((p : ℕ) → Part r p → In (tree-at ks p) i → reached (tree-at ks p) ms j ≡ true → reached (tree-at ks i) ms j ≡ true)
+          → In (node a r (tree-at ks)) i → reached (node a r (tree-at ks)) ms j ≡ true → reached (tree-at ks i) ms j ≡ true
       at-shape a (no-part k) x d m g u w = subst (λ t. reached t ms j ≡ true) (sym (x u)) w
       at-shape a (one-part k p) x d m g (inl u) w = subst (λ t. reached t ms j ≡ true) (sym (x u)) w
       at-shape a (one-part k p) x d m g (inr u) w =
@@ -129,7 +132,7 @@ module _ (ks : List Kind) (S : Rising ks) (O : Once ks) (ms : List Mark) (i j : 
 
 -- the statement's own rule applies where it is ready
 pub own-rule : (ks : List Kind) (S : Rising ks) (O : Once ks) (ms : List Mark) (e : Signals) (i : ℕ) → 0 < length ks → In (tree-at ks 0) i
-  → ready (tree-at ks 0) ms e i ≡ true → rule (tree-at ks i) ms e ≡ true
+    → ready (tree-at ks 0) ms e i ≡ true → rule (tree-at ks i) ms e ≡ true
 own-rule ks S O ms e i z u r =
     let a = told ks S O ms e i 0 z u .when-ready in
     go (reached (tree-at ks 0) ms i) (rule (tree-at ks i) ms e) (sym a ∙ r)
@@ -138,7 +141,7 @@ own-rule ks S O ms e i z u r =
     go p s h = grind arith
 
 module _ (ks : List Kind) (S : Rising ks) (O : Once ks) (z : 0 < length ks) (ms : List Mark) (e : Signals) (i j : ℕ) (li : i < length ks)
-  (l : length ms ≡ length ks) (g : Legal (marked (tree-at ks i) ms)) (u : In (tree-at ks 0) i) where
+    (l : length ms ≡ length ks) (g : Legal (marked (tree-at ks i) ms)) (u : In (tree-at ks 0) i) where
   fits : Fits (length ks) (tree-at ks i)
   fits a h = under-below ks S li (in-under ks S i li a h) .1
 

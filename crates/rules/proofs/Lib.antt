@@ -1,14 +1,10 @@
 pub mod MarkedTrees
 pub mod Potential
 pub mod ByNumber
-pub mod Orders
-pub mod Nesting
 pub mod Pulled
 pub mod Effects
 pub mod Diamonds
-pub mod Unique
 pub mod Falling
-pub mod Nested
 pub mod Positions
 pub mod Shapes
 pub mod Parts
@@ -17,7 +13,6 @@ pub mod Tests
 pub mod Flat
 pub mod Frames
 pub mod Steps
-pub mod Sizes
 pub mod FlatRuns
 pub mod Table
 pub mod Claims

@@ -5,7 +5,6 @@ use mathlib.Core.Bool.{Bool, true, false, cond, not, _&&_, _||_}
 use mathlib.Core.Logic.{_⊎_, inl, inr}
 use Prim.Native.Nat.{ℕ, _+_}
 use lib.ListN.{getD, set}
-
 pub use Rattle.rules.specs.Rules.{Mark, idle, waiting, underway, done, Leaf, nothing, stop, emit, wait, One, loop, kill, local, Two, sequence, parallel, when}
 pub use Rattle.rules.specs.Rules.{Signals, Effect, quiet, raises, drops, leaf-effect, one-effect, apply, is-live, leaf-begun as begun}
 pub use Rattle.rules.specs.Legal.{leaf-legal, one-legal, two-legal}
@@ -198,3 +197,26 @@ next s x = (after (s .0) x, apply (eff (s .0) x) (s .1))
 -- scopes are a matter of the tree without its marks
 abbrev pub Fine : State → Type 0
 Fine s = Legal (s .0) × Scoped (rest (s .0))
+
+-- the number of the statement at a position (a position outside the tree: 0)
+abbrev pub number : Marked → Pos → ℕ
+number (mleaf n k m) here = n
+number (mleaf n k m) (left x) = 0
+number (mleaf n k m) (right x) = 0
+number (mone n k m p) here = n
+number (mone n k m p) (left x) = number p x
+number (mone n k m p) (right x) = 0
+number (mtwo n k m p q) here = n
+number (mtwo n k m p q) (left x) = number p x
+number (mtwo n k m p q) (right x) = number q x
+
+pub number-rest : (t : Marked) (x : Pos) → number (rest t) x ≡ number t x
+number-rest (mleaf n k m) here = refl
+number-rest (mleaf n k m) (left x) = refl
+number-rest (mleaf n k m) (right x) = refl
+number-rest (mone n k m p) here = refl
+number-rest (mone n k m p) (left x) = number-rest p x
+number-rest (mone n k m p) (right x) = refl
+number-rest (mtwo n k m p q) here = refl
+number-rest (mtwo n k m p q) (left x) = number-rest p x
+number-rest (mtwo n k m p q) (right x) = number-rest q x

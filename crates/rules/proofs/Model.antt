@@ -7,7 +7,6 @@ use Rattle.rules.specs.Runs.{Run, Quiet}
 use Rattle.rules.proofs.Shapes.{Kind, Flat, tree-at, ready}
 use Rattle.rules.proofs.Tests.{Legal-marks}
 use Rattle.rules.proofs.Claims.{Enabled, moved}
-
 pub use Rattle.routine.specs.Search.{lowest}
 pub use Rattle.rules.specs.Model.{turned}
 unfoldable pub use Rattle.rules.specs.Model.{settled as model}

@@ -33,8 +33,9 @@ module _ (ks : List Kind) (sorts : List Sort) (T : Table ks sorts) where
   none-ready : (s : Flat) → ((k : ℕ) → k < length ks → ready (tree-at ks 0) (s .0) (s .1) k ≡ false) → Quiet (Enabled ks) s
   none-ready s h i r =
       elim (decLt i (length ks)) [
-        yes l ↦ false-true (h i l) r
-      | no d ↦ false-true (unready (tree-at ks 0) (s .0) (s .1) i (λ x. d (sound ks sorts T .below i x))) r ]
+        | yes l ↦ false-true (h i l) r
+        | no d ↦ false-true (unready (tree-at ks 0) (s .0) (s .1) i (λ x. d (sound ks sorts T .below i x))) r
+      ]
 
   find : (s : Flat) → Turns-so s (turn ks s)
   find s = go (lowest (ready (tree-at ks 0) (s .0) (s .1)) (length ks)) (found (ready (tree-at ks 0) (s .0) (s .1)) (length ks))
@@ -48,8 +49,9 @@ module _ (ks : List Kind) (sorts : List Sort) (T : Table ks sorts) where
   stay zero s q = refl
   stay (suc f) s q =
       elim (find s) [
-        inl h ↦ absurd (q (h .0) (h .1))
-      | inr h ↦ ap (model ks f) (h .1) ∙ stay f s q ]
+        | inl h ↦ absurd (q (h .0) (h .1))
+        | inr h ↦ ap (model ks f) (h .1) ∙ stay f s q
+      ]
 
   abbrev Less : Flat → Flat → Type 0
   Less s u = (length (u .0) ≡ length ks) × Legal (marked (tree-at ks 0) (u .0)) × (steps-left (marked (tree-at ks 0) (u .0)) < steps-left (marked (tree-at ks 0) (s .0)))
@@ -67,11 +69,11 @@ module _ (ks : List Kind) (sorts : List Sort) (T : Table ks sorts) where
 
   abbrev Path-runs : ℕ → Flat → Type 0
   Path-runs f s = length (s .0) ≡ length ks → Legal (marked (tree-at ks 0) (s .0)) → steps-left (marked (tree-at ks 0) (s .0)) ≤ f
-    → Runs-quiet s (path ks f s) (model ks f s)
+      → Runs-quiet s (path ks f s) (model ks f s)
 
   one-more-turn : (f : ℕ) (s : Flat) → length (s .0) ≡ length ks → Legal (marked (tree-at ks 0) (s .0)) → steps-left (marked (tree-at ks 0) (s .0)) ≤ suc f
-    → ((u : Flat) → Path-runs f u) → (o : Option ℕ) → Found (ready (tree-at ks 0) (s .0) (s .1)) (length ks) o
-    → Runs-quiet s (first-then o (λ i. path ks f (moved ks s i))) (model ks f (turned ks s o))
+      → ((u : Flat) → Path-runs f u) → (o : Option ℕ) → Found (ready (tree-at ks 0) (s .0) (s .1)) (length ks) o
+      → Runs-quiet s (first-then o (λ i. path ks f (moved ks s i))) (model ks f (turned ks s o))
   one-more-turn f s l g b ih (Some i) h =
       let a = less s i l g h in
       let c = ih (moved ks s i) (a .0) (a .1) (let x = a .2 in omega arith) in
@@ -84,8 +86,9 @@ module _ (ks : List Kind) (sorts : List Sort) (T : Table ks sorts) where
   unfolding model path
   path-runs zero s l g b =
       elim (find s) [
-        inl h ↦ absurd (let a = less s (h .0) l g (h .1) .2 in omega arith)
-      | inr h ↦ (still, h .0) ]
+        | inl h ↦ absurd (let a = less s (h .0) l g (h .1) .2 in omega arith)
+        | inr h ↦ (still, h .0)
+      ]
   path-runs (suc f) s l g b =
       one-more-turn f s l g b (path-runs f) (lowest (ready (tree-at ks 0) (s .0) (s .1)) (length ks)) (found (ready (tree-at ks 0) (s .0) (s .1)) (length ks))
 

@@ -73,12 +73,12 @@ over-closed (mtwo n (when s) m p q) l (inr o) =
 
 -- a step
 one-here : (n : ℕ) (k : One) (m : Mark) (p : Marked) → one-legal m k (live p) ≡ true → nested p ≡ true → ReadyOne m k p
-  → (live p ≡ false → nested (begin p) ≡ true) → nested (rest p) ≡ true → nested (afterOne n m k p) ≡ true
+    → (live p ≡ false → nested (begin p) ≡ true) → nested (rest p) ≡ true → nested (afterOne n m k p) ≡ true
 one-here n k m p o h r f g = grind arith
 
 two-here : (e : Signals) (n : ℕ) (k : Two) (m : Mark) (p q : Marked) → two-legal m k (live p) (live q) ≡ true → nested p ≡ true → nested q ≡ true
-  → ReadyTwo e m k p → (live p ≡ false → nested (begin p) ≡ true) → (live q ≡ false → nested (begin q) ≡ true) → nested (rest p) ≡ true
-  → (live p ≡ false → ¬ (Over p)) → nested (afterTwo n m k p q) ≡ true
+    → ReadyTwo e m k p → (live p ≡ false → nested (begin p) ≡ true) → (live q ≡ false → nested (begin q) ≡ true) → nested (rest p) ≡ true
+    → (live p ≡ false → ¬ (Over p)) → nested (afterTwo n m k p q) ≡ true
 two-here e n k m p q o h g r f f′ i w = grind arith
 
 fresh-nested : (t : Marked) → Legal t → live t ≡ false → nested (begin t) ≡ true
@@ -110,12 +110,12 @@ after-nested e (mtwo n k m p q) l h (right x) r =
 
 -- the end of the instant
 one-ends : (e : Signals) (n : ℕ) (m : Mark) (k : One) (p c : Marked) → one-legal m k (live p) ≡ true → no-open c ≡ true → (live p ≡ false → no-open p ≡ true)
-  → no-open (rest p) ≡ true → no-open (close1 e n m k p c) ≡ true
+    → no-open (rest p) ≡ true → no-open (close1 e n m k p c) ≡ true
 one-ends e n m k p c o h f g = grind arith
 
 two-ends : (n : ℕ) (m : Mark) (k : Two) (o : Bool) (p q c d : Marked) → two-legal m k (live p) (live q) ≡ true → no-open c ≡ true → no-open d ≡ true
-  → (live p ≡ false → no-open p ≡ true) → (live q ≡ false → no-open q ≡ true) → (live q ≡ false → no-open (begin q) ≡ true)
-  → (o ≡ true → (no-open p && no-open q) ≡ true) → no-open (close2 n m k o p q c d) ≡ true
+    → (live p ≡ false → no-open p ≡ true) → (live q ≡ false → no-open q ≡ true) → (live q ≡ false → no-open (begin q) ≡ true)
+    → (o ≡ true → (no-open p && no-open q) ≡ true) → no-open (close2 n m k o p q c d) ≡ true
 two-ends n m k o p q c d v h g f f′ b w = grind arith
 
 two-is-over : (n : ℕ) (k : Two) (m : Mark) (p q : Marked) → Legal (mtwo n k m p q) → two-over k (overT p) (overT q) ≡ true → (no-open p && no-open q) ≡ true
@@ -129,7 +129,7 @@ close-closed e (mleaf n k m) l = refl
 close-closed e (mone n k m p) l = one-ends e n m k p (close e p) (l .0) (close-closed e p (l .1)) (idle-closed p (l .1)) (rest-closed p)
 close-closed e (mtwo n k m p q) l =
     two-ends n m k (two-over k (overT p) (overT q)) p q (close e p) (close e q) (l .0) (close-closed e p (l .1)) (close-closed e q (l .2))
-      (idle-closed p (l .1)) (idle-closed q (l .2)) (λ b. begin-closed q (idle-closed q (l .2) b)) (two-is-over n k m p q l)
+    (idle-closed p (l .1)) (idle-closed q (l .2)) (λ b. begin-closed q (idle-closed q (l .2) b)) (two-is-over n k m p q l)
 
 -- the same, statement by statement
 abbrev pub open-at : List Kind → List Mark → ℕ → Bool
@@ -168,7 +168,7 @@ module _ (ks : List Kind) (S : Rising ks) (O : Once ks) (ms : List Mark) where
   none-open i = trees ks S (λ a t. In t i → no-open (marked t ms) ≡ true → open-at ks ms i ≡ false) (λ a l g. at-shape a (shape-at ks a) (own a i) g)
     where
       at-shape : (a : ℕ) (r : Shape) → Own a r i → ((p : ℕ) → Part r p → In (tree-at ks p) i → no-open (marked (tree-at ks p) ms) ≡ true → open-at ks ms i ≡ false)
-        → In (node a r (tree-at ks)) i → no-open (marked (node a r (tree-at ks)) ms) ≡ true → open-at ks ms i ≡ false
+          → In (node a r (tree-at ks)) i → no-open (marked (node a r (tree-at ks)) ms) ≡ true → open-at ks ms i ≡ false
       at-shape a (no-part k) w g u h = w u
       at-shape a (one-part k p) w g (inl u) h = let x = w u in let y = opens-is (at ms a) k p in grind arith
       at-shape a (one-part k p) w g (inr u) h = g p refl u (first-of _ _ h .1)
@@ -180,8 +180,8 @@ module _ (ks : List Kind) (S : Rising ks) (O : Once ks) (ms : List Mark) where
   all-shut = trees ks S (λ a t. ((i : ℕ) → In t i → open-at ks ms i ≡ false) → no-open (marked t ms) ≡ true) (λ a l g. at-shape a (shape-at ks a) (own a a refl) g)
     where
       at-shape : (a : ℕ) (r : Shape) → open-at ks ms a ≡ (is-local r && is-underway (at ms a))
-        → ((p : ℕ) → Part r p → ((i : ℕ) → In (tree-at ks p) i → open-at ks ms i ≡ false) → no-open (marked (tree-at ks p) ms) ≡ true)
-        → ((i : ℕ) → In (node a r (tree-at ks)) i → open-at ks ms i ≡ false) → no-open (marked (node a r (tree-at ks)) ms) ≡ true
+          → ((p : ℕ) → Part r p → ((i : ℕ) → In (tree-at ks p) i → open-at ks ms i ≡ false) → no-open (marked (tree-at ks p) ms) ≡ true)
+          → ((i : ℕ) → In (node a r (tree-at ks)) i → open-at ks ms i ≡ false) → no-open (marked (node a r (tree-at ks)) ms) ≡ true
       at-shape a (no-part k) w g h = refl
       at-shape a (one-part k p) w g h =
           let x = g p refl (λ i u. h i (inr u)) in let y = h a (inl refl) in let z = opens-is (at ms a) k p in grind arith
@@ -194,8 +194,8 @@ module _ (ks : List Kind) (S : Rising ks) (O : Once ks) (ms : List Mark) where
       (λ a l g. at-shape a (shape-at ks a) (apart a l) (λ p h. S a l p h .1) g)
     where
       at-shape : (a : ℕ) (r : Shape) → Distinct (blank (node a r (tree-at ks))) → Part-of a r
-        → ((p : ℕ) → Part r p → In (tree-at ks p) i → nested (marked (tree-at ks p) ms) ≡ true → open-at ks ms i ≡ true → reached (tree-at ks p) ms i ≡ true)
-        → In (node a r (tree-at ks)) i → nested (marked (node a r (tree-at ks)) ms) ≡ true → open-at ks ms i ≡ true → reached (node a r (tree-at ks)) ms i ≡ true
+          → ((p : ℕ) → Part r p → In (tree-at ks p) i → nested (marked (tree-at ks p) ms) ≡ true → open-at ks ms i ≡ true → reached (tree-at ks p) ms i ≡ true)
+          → In (node a r (tree-at ks)) i → nested (marked (node a r (tree-at ks)) ms) ≡ true → open-at ks ms i ≡ true → reached (node a r (tree-at ks)) ms i ≡ true
       at-shape a (no-part k) d m g u h o = on-own i a false u
       at-shape a (one-part k p) d m g (inl u) h o = on-own i a _ u
       at-shape a (one-part k p) d m g (inr u) h o =
@@ -223,20 +223,22 @@ module _ (ks : List Kind) (S : Rising ks) (O : Once ks) (ms : List Mark) where
     where
       inner : (s b c : Bool) → (not s && b) ≡ true → b ≡ true
       inner s b c h = grind arith
+
       outer : (s b : Bool) → (not s && b) ≡ true → s ≡ false
       outer s b h = grind arith
+
       not-open : (b : Bool) → (b ≡ true → ⊥) → b ≡ false
       not-open true h = absurd (h refl)
       not-open false h = refl
 
       one-part-nested : (a : ℕ) (k : One) (p : ℕ) → Distinct (blank (one a k (tree-at ks p))) → p < length ks
-        → (((i : ℕ) → In (tree-at ks p) i → open-at ks ms i ≡ true → reached (tree-at ks p) ms i ≡ true) → nested (marked (tree-at ks p) ms) ≡ true)
-        → ((i : ℕ) → In (one a k (tree-at ks p)) i → open-at ks ms i ≡ true → reached (one a k (tree-at ks p)) ms i ≡ true)
-        → (s : Bool) → shut (at ms a) k ≡ s → (nested (marked (tree-at ks p) ms) && (not s || no-open (marked (tree-at ks p) ms))) ≡ true
+          → (((i : ℕ) → In (tree-at ks p) i → open-at ks ms i ≡ true → reached (tree-at ks p) ms i ≡ true) → nested (marked (tree-at ks p) ms) ≡ true)
+          → ((i : ℕ) → In (one a k (tree-at ks p)) i → open-at ks ms i ≡ true → reached (one a k (tree-at ks p)) ms i ≡ true)
+          → (s : Bool) → shut (at ms a) k ≡ s → (nested (marked (tree-at ks p) ms) && (not s || no-open (marked (tree-at ks p) ms))) ≡ true
       one-part-nested a k p d l g h s e =
           let off = λ (i : ℕ) (u : In (tree-at ks p) i) (o : open-at ks ms i ≡ true).
-            let ne : ¬ (i ≡ a) = λ z. d .0 (subst (In (tree-at ks p)) z u) in
-            sym (off-one i a (shut (at ms a) k) (reached (tree-at ks p) ms i) ne) ∙ h i (inr u) o in
+          let ne : ¬ (i ≡ a) = λ z. d .0 (subst (In (tree-at ks p)) z u) in
+          sym (off-one i a (shut (at ms a) k) (reached (tree-at ks p) ms i) ne) ∙ h i (inr u) o in
           let x = g (λ i u o. inner (shut (at ms a) k) (reached (tree-at ks p) ms i) false (off i u o)) in
           joined s x (λ z. all-shut p l (λ i u. not-open (open-at ks ms i) (λ o. false-true (outer (shut (at ms a) k) (reached (tree-at ks p) ms i) (off i u o)) (e ∙ z))))
         where
@@ -245,21 +247,21 @@ module _ (ks : List Kind) (S : Rising ks) (O : Once ks) (ms : List Mark) where
           joined false x f = grind arith
 
       at-shape : (a : ℕ) (r : Shape) → Distinct (blank (node a r (tree-at ks))) → Part-of a r
-        → ((p : ℕ) → Part r p → ((i : ℕ) → In (tree-at ks p) i → open-at ks ms i ≡ true → reached (tree-at ks p) ms i ≡ true) → nested (marked (tree-at ks p) ms) ≡ true)
-        → ((i : ℕ) → In (node a r (tree-at ks)) i → open-at ks ms i ≡ true → reached (node a r (tree-at ks)) ms i ≡ true) → nested (marked (node a r (tree-at ks)) ms) ≡ true
+          → ((p : ℕ) → Part r p → ((i : ℕ) → In (tree-at ks p) i → open-at ks ms i ≡ true → reached (tree-at ks p) ms i ≡ true) → nested (marked (tree-at ks p) ms) ≡ true)
+          → ((i : ℕ) → In (node a r (tree-at ks)) i → open-at ks ms i ≡ true → reached (node a r (tree-at ks)) ms i ≡ true) → nested (marked (node a r (tree-at ks)) ms) ≡ true
       at-shape a (no-part k) d m g h = refl
       at-shape a (one-part k p) d m g h = one-part-nested a k p d (m p refl) (g p refl) h (shut (at ms a) k) refl
       at-shape a (two-parts k p q) d m g h =
           let x = g p (inl refl) (λ i u o.
-            let ne : ¬ (i ≡ a) = λ z. d .0 (subst (In (tree-at ks p)) z u) in
-            let y = sym (off-two i a (reached (tree-at ks p) ms i) (reached (tree-at ks q) ms i) ne) ∙ h i (inr (inl u)) o in
-            let w = unreached (tree-at ks q) ms i (d .2 i u) in
-            grind arith) in
+          let ne : ¬ (i ≡ a) = λ z. d .0 (subst (In (tree-at ks p)) z u) in
+          let y = sym (off-two i a (reached (tree-at ks p) ms i) (reached (tree-at ks q) ms i) ne) ∙ h i (inr (inl u)) o in
+          let w = unreached (tree-at ks q) ms i (d .2 i u) in
+          grind arith) in
           let x′ = g q (inr refl) (λ i u o.
-            let ne : ¬ (i ≡ a) = λ z. d .1 (subst (In (tree-at ks q)) z u) in
-            let y = sym (off-two i a (reached (tree-at ks p) ms i) (reached (tree-at ks q) ms i) ne) ∙ h i (inr (inr u)) o in
-            let w = unreached (tree-at ks p) ms i (λ z. d .2 i z u) in
-            grind arith) in
+          let ne : ¬ (i ≡ a) = λ z. d .1 (subst (In (tree-at ks q)) z u) in
+          let y = sym (off-two i a (reached (tree-at ks p) ms i) (reached (tree-at ks q) ms i) ne) ∙ h i (inr (inr u)) o in
+          let w = unreached (tree-at ks p) ms i (λ z. d .2 i z u) in
+          grind arith) in
           grind arith
 
   pub to-nested : 0 < length ks → ((i : ℕ) → In (tree-at ks 0) i → open-at ks ms i ≡ true → reached (tree-at ks 0) ms i ≡ true) → nested (marked (tree-at ks 0) ms) ≡ true

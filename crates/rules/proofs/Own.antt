@@ -36,7 +36,7 @@ module _ (ms : List Mark) (e : Signals) (i : ℕ) (u : Tree) where
       grind arith
 
   told-two : (n : ℕ) (k : Two) (p q : Tree) → Distinct (blank (two n k p q)) → (i ≡ n → u ≡ two n k p q)
-    → (In p i → Told ms e i p u) → (In q i → Told ms e i q u) → In (two n k p q) i → Told ms e i (two n k p q) u
+      → (In p i → Told ms e i p u) → (In q i → Told ms e i q u) → In (two n k p q) i → Told ms e i (two n k p q) u
   told-two n k p q d x g f (inl h) = let y = x h in grind arith
   told-two n k p q d x g f (inr (inl h)) =
       let b : ¬ (i ≡ n) = λ z. d .0 (subst (In p) z h) in
@@ -59,8 +59,8 @@ module _ (ks : List Kind) (S : Rising ks) (O : Once ks) (ms : List Mark) (e : Si
       (λ a l g. at-row a (shape-at ks a) (λ h. subst (λ j. tree-at ks j ≡ node a (shape-at ks a) (tree-at ks)) (sym h) (unroll ks S a l)) (subst (λ t. Distinct (blank t)) (unroll ks S a l) (distinct ks S O a l)) g)
     where
       at-row : (a : ℕ) (r : Shape) → (i ≡ a → tree-at ks i ≡ node a r (tree-at ks)) → Distinct (blank (node a r (tree-at ks)))
-        → ((b : ℕ) → Part r b → In (tree-at ks b) i → Told ms e i (tree-at ks b) (tree-at ks i))
-        → In (node a r (tree-at ks)) i → Told ms e i (node a r (tree-at ks)) (tree-at ks i)
+          → ((b : ℕ) → Part r b → In (tree-at ks b) i → Told ms e i (tree-at ks b) (tree-at ks i))
+          → In (node a r (tree-at ks)) i → Told ms e i (node a r (tree-at ks)) (tree-at ks i)
       at-row a (no-part k) x d g h = let y = x h in grind arith
       at-row a (one-part k p) x d g h = told-one ms e i (tree-at ks i) a k (tree-at ks p) (d .0) x (g p refl) h
       at-row a (two-parts k p q) x d g h = told-two ms e i (tree-at ks i) a k (tree-at ks p) (tree-at ks q) d x (g p (inl refl)) (g q (inr refl)) h

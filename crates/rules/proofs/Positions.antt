@@ -13,16 +13,14 @@ use Rattle.rules.proofs.MarkedTrees.{Mark, idle, waiting, underway, done, Leaf
 use Rattle.rules.proofs.MarkedTrees.{Marked, mleaf, mone, mtwo, Pos, here, left, right, begin, rest, Over, Signals, Present, Ready, ReadyLeaf, ReadyOne, ReadyTwo, Opened}
 use Rattle.rules.proofs.MarkedTrees.{after, afterOne, afterTwo, eff, leaf-effect, one-effect, apply, Effect, quiet, raises, drops, live, one-legal, two-legal, Legal}
 use Rattle.rules.proofs.MarkedTrees.{State, Can, next, Fine, Scoped}
-use Rattle.rules.proofs.Orders.{number}
+use Rattle.rules.proofs.MarkedTrees.{number, number-rest}
 use Rattle.rules.proofs.ByNumber.{over, two-over, is-done, pick, Change, inside, orElse, stepLeaf, stepOne, stepTwo, shut, step}
 use Rattle.rules.proofs.Potential.{size, Turns, steps-left}
 use Rattle.rules.proofs.ByNumber.{Ends-by-number, Has, Distinct, Steps, go, take, Proper, Order-by-number}
 use Rattle.rules.proofs.Diamonds.{idle-not-over, after-legal}
 use Rattle.rules.proofs.Diamonds.{rest-after, diamond}
 use Rattle.rules.proofs.Pulled.{pull, unique}
-use Rattle.rules.proofs.Unique.{number-rest}
 use Rattle.rules.proofs.Falling.{instant-ends}
-use Rattle.rules.proofs.Nested.{nested}
 
 -- over, as a test and as a type
 over-two : (m : Mark) (k : Two) (b c x : Bool) → two-legal m k b c ≡ true → (is-done m || x) ≡ true → x ≡ true
@@ -56,15 +54,15 @@ same-some : {A : Type 0} {a r : A} → some a ≡ some r → r ≡ a
 same-some h = cc
 
 own-leaf : (e : Signals) (n : ℕ) (m : Mark) (k : Leaf) {r : Marked × Effect} → stepLeaf e n m k ≡ some r
-  → ReadyLeaf e m k × (r ≡ (mleaf n k done, leaf-effect k))
+    → ReadyLeaf e m k × (r ≡ (mleaf n k done, leaf-effect k))
 own-leaf e n m k h = grind arith
 
 own-one : (n : ℕ) (m : Mark) (k : One) (b o : Bool) (p : Marked) {r : Marked × Effect} → one-legal m k b ≡ true → (b ≡ false → ¬ (o ≡ true)) → (o ≡ true → Over p)
-  → stepOne n m k o p ≡ some r → ReadyOne m k p × (r ≡ (afterOne n m k p, one-effect k))
+    → stepOne n m k o p ≡ some r → ReadyOne m k p × (r ≡ (afterOne n m k p, one-effect k))
 own-one n m k b o p g i f h = grind arith
 
 own-two : (e : Signals) (n : ℕ) (m : Mark) (k : Two) (b c o : Bool) (p q : Marked) {r : Marked × Effect} → two-legal m k b c ≡ true
-  → (b ≡ false → ¬ (o ≡ true)) → (o ≡ true → Over p) → stepTwo e n m k o p q ≡ some r → ReadyTwo e m k p × (r ≡ (afterTwo n m k p q, quiet))
+    → (b ≡ false → ¬ (o ≡ true)) → (o ≡ true → Over p) → stepTwo e n m k o p q ≡ some r → ReadyTwo e m k p × (r ≡ (afterTwo n m k p q, quiet))
 own-two e n m k b c o p q g i f h = grind arith
 
 opened : (m : Mark) (k : One) {o : Change} {a : Marked × Effect} → cond (shut m k) none o ≡ some a → Opened m k × (o ≡ some a)
@@ -84,7 +82,7 @@ module _ (e : Signals) (i : ℕ) where
   step-to (mone n k m p) l r h = at (ℕ-discrete i n) (step e p i) (step-to p (l .1)) h
     where
       at : (d : Dec (i ≡ n)) (c : Change) → ((r : Marked × Effect) → c ≡ some r → From e p i r)
-        → pick d (stepOne n m k (over p) p) (cond (shut m k) none (inside (mone n k m) c)) ≡ some r → From e (mone n k m p) i r
+          → pick d (stepOne n m k (over p) p) (cond (shut m k) none (inside (mone n k m) c)) ≡ some r → From e (mone n k m p) i r
       at (yes a) c f h =
           let c = own-one n m k (live p) (over p) p (l .0) (idle-over p (l .1)) (over-says p (l .1)) h in
           (here, sym a, c .0, c .1)
@@ -96,7 +94,7 @@ module _ (e : Signals) (i : ℕ) where
   step-to (mtwo n k m p q) l r h = at (ℕ-discrete i n) (step e p i) (step e q i) (step-to p (l .1)) (step-to q (l .2)) h
     where
       at : (d : Dec (i ≡ n)) (c c′ : Change) → ((r : Marked × Effect) → c ≡ some r → From e p i r) → ((r : Marked × Effect) → c′ ≡ some r → From e q i r)
-        → pick d (stepTwo e n m k (over p) p q) (orElse (inside (λ p′. mtwo n k m p′ q) c) (inside (mtwo n k m p) c′)) ≡ some r → From e (mtwo n k m p q) i r
+          → pick d (stepTwo e n m k (over p) p q) (orElse (inside (λ p′. mtwo n k m p′ q) c) (inside (mtwo n k m p) c′)) ≡ some r → From e (mtwo n k m p q) i r
       at (yes a) c c′ f g h =
           let c = own-two e n m k (live p) (live q) (over p) p q (l .0) (idle-over p (l .1)) (over-says p (l .1)) h in
           (here, sym a, c .0, c .1)
@@ -165,7 +163,7 @@ after-number : (t : Marked) (x y : Pos) → number (after t x) y ≡ number t y
 after-number t x y = sym (number-rest (after t x) y) ∙ ap (λ u. number u y) (rest-after t x) ∙ number-rest t y
 
 second : (s : State) (i j : ℕ) (x y : Pos) → Proper s → Can s x → go s i ≡ next s x → number (s .0) y ≡ j → Can (next s x) y
-  → Steps (go s i) j × (go (go s i) j ≡ next (next s x) y)
+    → Steps (go s i) j × (go (go s i) j ≡ next (next s x) y)
 second s i j x y h c g e c′ =
     let f = from-pos j y (keeps s x h c) (after-number (s .0) x y ∙ e) c′ in
     (subst (λ (u : State). Steps u j) (sym g) (f .0), ap (λ (u : State). go u j) g ∙ f .1)
@@ -175,21 +173,21 @@ by-number =
     record {
       keep = λ s i h st. let g = to-pos h st in subst Proper (sym (g .3)) (keeps s (g .0) h (g .2));
       join = λ s i j h d st st′.
-        let a = to-pos h st in
-        let b = to-pos h st′ in
-        let x≢y : ¬ (a .0 ≡ b .0) = λ e. d (sym (a .1) ∙ ap (number (s .0)) e ∙ b .1) in
-        let k = diamond .join s (a .0) (b .0) (fine h) x≢y (a .2) (b .2) in
-        let k′ = diamond .join s (b .0) (a .0) (fine h) (λ e. x≢y (sym e)) (b .2) (a .2) in
-        let u = second s i j (a .0) (b .0) h (a .2) (a .3) (b .1) (k .0) in
-        let v = second s j i (b .0) (a .0) h (b .2) (b .3) (a .1) (k′ .0) in
-        (u .0, u .1 ∙ k .1 ∙ sym (v .1))
+          let a = to-pos h st in
+          let b = to-pos h st′ in
+          let x≢y : ¬ (a .0 ≡ b .0) = λ e. d (sym (a .1) ∙ ap (number (s .0)) e ∙ b .1) in
+          let k = diamond .join s (a .0) (b .0) (fine h) x≢y (a .2) (b .2) in
+          let k′ = diamond .join s (b .0) (a .0) (fine h) (λ e. x≢y (sym e)) (b .2) (a .2) in
+          let u = second s i j (a .0) (b .0) h (a .2) (a .3) (b .1) (k .0) in
+          let v = second s j i (b .0) (a .0) h (b .2) (b .3) (a .1) (k′ .0) in
+          (u .0, u .1 ∙ k .1 ∙ sym (v .1));
     }
 
 pub order-by-number : Order-by-number
 order-by-number =
     record {
       pull = λ s z i w h st r q. pull ℕ-discrete Steps go Proper by-number h st r q;
-      unique = λ s z y w u h r q r′ q′. unique ℕ-discrete Steps go Proper by-number h r q r′ q′
+      unique = λ s z y w u h r q r′ q′. unique ℕ-discrete Steps go Proper by-number h r q r′ q′;
     }
 
 to-run : {s z : State} {w : List ℕ} → Proper s → Run Steps go s w z → (v : List Pos) × Run Can next s v z × (length v ≡ length w)
@@ -199,20 +197,5 @@ to-run {s = s} {z = z} h (then {w = w} st r) =
     let k = to-run (by-number .keep s _ h st) r in
     (g .0 ∷ k .0, then (g .2) (subst (λ (u : State). Run Can next u (k .0) z) (g .3) (k .1)), ap suc (k .2))
 
-from-run : {s z : State} {v : List Pos} → Proper s → Run Can next s v z → (w : List ℕ) × Run Steps go s w z × Proper z
-from-run h still = ([], still, h)
-from-run {s = s} {z = z} h (then {i = x} c r) =
-    let i = number (s .0) x in
-    let g = from-pos i x h refl c in
-    let k = from-run (keeps s x h c) r in
-    (i ∷ k .0, then (g .0) (subst (λ (u : State). Run Steps go u (k .0) z) (sym (g .1)) (k .1)), k .2)
-
 pub ends-by-number : Ends-by-number
-ends-by-number =
-    record {
-      bounded = λ s z w h t r. let k = to-run h r in let g = instant-ends s z (k .0) (fine h) t (k .1) in let e = k .2 in omega arith;
-      has-end = λ s h t.
-        let k = nested .has-end s (fine h) t in
-        let g = from-run h (k .2) in
-        (g .0, k .1, g .1, λ i st. let a = to-pos (g .2) st in k .3 (a .0) (a .2))
-    }
+ends-by-number s z w h t r = let k = to-run h r in let g = instant-ends s z (k .0) (fine h) t (k .1) in let e = k .2 in omega arith

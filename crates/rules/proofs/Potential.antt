@@ -1,4 +1,4 @@
--- (5): how many steps an instant can still take
+-- how many steps an instant can still take
 use mathlib.Core.Path.{_≡_, refl}
 use mathlib.Core.List.{List, [], _∷_}
 use mathlib.Core.Bool.{Bool, true, false, cond, _&&_, _||_}

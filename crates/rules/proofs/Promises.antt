@@ -47,8 +47,8 @@ module _ (gs : List SignalKind) (ks : List Kind) (C : Checked gs ks) where
       record {
         same = λ c x y v w L r q r′ q′. orderless ks gs T .same c x y v w (L .many) (rows true ks (c .0) L) r q r′ q′;
         as-model = λ c x v L r q.
-          let m = model-run ks gs T c (L .many) (rows true ks (c .0) L) in
-          orderless ks gs T .same c x (settled ks (enough ks) c) v (path ks (enough ks) c) (L .many) (rows true ks (c .0) L) r q (m .0) (m .1)
+            let m = model-run ks gs T c (L .many) (rows true ks (c .0) L) in
+            orderless ks gs T .same c x (settled ks (enough ks) c) v (path ks (enough ks) c) (L .many) (rows true ks (c .0) L) r q (m .0) (m .1);
       }
 
   pub instant-ends : Instant-ends gs ks
@@ -56,7 +56,7 @@ module _ (gs : List SignalKind) (ks : List Kind) (C : Checked gs ks) where
       record {
         bounded = λ c x v L r. orderless ks gs T .bounded c x v (L .many) (rows true ks (c .0) L) r;
         model-runs = λ c L. model-run ks gs T c (L .many) (rows true ks (c .0) L) .0;
-        model-quiet = λ c L. model-run ks gs T c (L .many) (rows true ks (c .0) L) .1
+        model-quiet = λ c L. model-run ks gs T c (L .many) (rows true ks (c .0) L) .1;
       }
 
   pub either-order : Either-order gs ks
@@ -76,38 +76,44 @@ module _ (gs : List SignalKind) (ks : List Kind) (C : Checked gs ks) where
       let v = to-tree N t S (from-root t c i) j li u in
       let v′ = to-tree N t S (from-root t c j) i lj u′ in
       let e : from-root t (from-root t c i) j ≡ from-root t (from-root t c j) i =
-        sim-inj N t S _ _ (keeps-length N t S (from-root t c i) j li) (keeps-length N t S (from-root t c j) i lj)
-          (sym (v .1) ∙ ap (λ (s : State). go s j) (sym (a .1)) ∙ k .1 ∙ ap (λ (s : State). go s i) (b .1) ∙ v′ .1) in
+      sim-inj N t S _ _ (keeps-length N t S (from-root t c i) j li) (keeps-length N t S (from-root t c j) i lj)
+      (sym (v .1) ∙ ap (λ (s : State). go s j) (sym (a .1)) ∙ k .1 ∙ ap (λ (s : State). go s i) (b .1) ∙ v′ .1) in
       let mi = moves ks gs T c i r in
       let mj = moves ks gs T c j r′ in
       let w : Ready ks (stepped ks c i) j = subst (λ (s : Config). Ready ks s j) mi u in
-      let w′ : Ready ks (stepped ks c j) i = subst (λ (s : Config). Ready ks s i) mj u′ in
-      (w,
-       sym (moves ks gs T (stepped ks c i) j w) ∙ ap (λ (s : Config). from-root t s j) (sym mi) ∙ e
-       ∙ ap (λ (s : Config). from-root t s i) mj ∙ moves ks gs T (stepped ks c j) i w′)
+      let w′ : Ready ks (stepped ks c j) i = subst (λ (s : Config). Ready ks s i) mj u′ in (
+        w,
+        sym (moves ks gs T (stepped ks c i) j w) ∙ ap (λ (s : Config). from-root t s j) (sym mi) ∙ e
+            ∙ ap (λ (s : Config). from-root t s i) mj ∙ moves ks gs T (stepped ks c j) i w′,
+      )
 
   pub nothing-ready-inside : Nothing-ready-inside gs ks
   nothing-ready-inside =
       record {
         inside-over = λ c i j L l o h.
-          not-true _ (none-in-over ks (T .shaped) (T .once) (T .some-row) (c .0) (c .1) i j l (L .many) (at-tree c i l L) (whole i l) o (in-has (tree-at ks i) j (contains-in (tree-at ks i) j h)));
+            not-true _ (none-in-over ks (T .shaped) (T .once) (T .some-row) (c .0) (c .1) i j l (L .many) (at-tree c i l L) (whole i l) o (in-has (tree-at ks i) j (contains-in (tree-at ks i) j h)));
         never-inside = λ c i j L r r′.
-          let l = below i (c .0) (c .1) r in
-          not-true _ (λ h. none-in-ready ks (T .shaped) (T .once) (T .some-row) (c .0) (c .1) i j l (L .many) (at-tree c i l L) (whole i l) r h
-            (in-has (tree-at ks i) j (contains-in (tree-at ks i) j (inside-contains (tree-at ks i) j h))) r′)
+            let l = below i (c .0) (c .1) r in
+            not-true _ (λ h. none-in-ready ks (T .shaped) (T .once) (T .some-row) (c .0) (c .1) i j l (L .many) (at-tree c i l L) (whole i l) r h
+            (in-has (tree-at ks i) j (contains-in (tree-at ks i) j (inside-contains (tree-at ks i) j h))) r′);
       }
     where
       not-true : (b : Bool) → (b ≡ true → ⊥) → b ≡ false
       not-true true h = absurd (h refl)
       not-true false h = refl
+
       whole : (i : ℕ) → i < length ks → In (tree-at ks 0) i
       whole i l = sound ks gs T .whole i l
+
       at-tree : (c : Config) (i : ℕ) → i < length ks → Legal true ks (c .0) → Lawful (marked (tree-at ks i) (c .0))
       at-tree c i l L = legal-to ks (T .shaped) (c .0) (rows true ks (c .0) L) i l
+
       false-true : {b : Bool} → b ≡ false → b ≡ true → ⊥
       false-true p q = let z : _≡_ {A = ℕ} 0 1 = cc in omega arith
+
       below : (i : ℕ) (ms : List Mark) (e : Signals) → ready (tree-at ks 0) ms e i ≡ true → i < length ks
       below i ms e r =
           elim (In-dec (tree-at ks 0) i) [
-            inl u ↦ sound ks gs T .below i u
-          | inr d ↦ absurd (false-true (unready (tree-at ks 0) ms e i d) r) ]
+            | inl u ↦ sound ks gs T .below i u
+            | inr d ↦ absurd (false-true (unready (tree-at ks 0) ms e i d) r)
+          ]

@@ -8,7 +8,6 @@ use lib.ListN.{getD, set, length}
 use Rattle.rules.proofs.MarkedTrees.{Mark, idle, waiting, underway, done, Leaf, nothing, stop, emit, wait, One, loop, kill, local, Two, sequence, parallel, when}
 use Rattle.rules.proofs.MarkedTrees.{Marked, mleaf, mone, mtwo, rest, Signals, Effect, quiet, raises, drops, apply, leaf-effect, one-effect, begun as first, is-live, leaf-legal, one-legal, two-legal}
 use Rattle.rules.proofs.ByNumber.{is-done, two-over, pick, shut}
-
 pub use Rattle.routine.specs.declared.kinds.Kind.{Kind}
 pub use Rattle.routine.specs.declared.kinds.Kind.the-variants.{Nothing}
 pub use Rattle.routine.specs.Kinds.{Shape, no-part, one-part, two-parts, shape, shape-at}

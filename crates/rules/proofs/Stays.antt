@@ -26,7 +26,7 @@ use Rattle.rules.proofs.Final.{to-legal, from-legal}
 use Rattle.rules.proofs.Claimed.{moves}
 use Rattle.rules.proofs.Endings.{begin-legal, close-legal, ended-same, ended-kept}
 use Rattle.rules.proofs.Ended.{close}
-use Rattle.rules.proofs.Instants.{idle-blank, instants}
+use Rattle.rules.proofs.Instants.{idle-blank}
 use Rattle.rules.proofs.OpenLocals.{no-open, nested, open-at, rest-closed, begin-closed, after-nested, close-closed, to-nested, from-nested, from-closed}
 use Rattle.rules.proofs.Checked.{table}
 use Rattle.rules.proofs.Promises.{rows}
@@ -58,12 +58,12 @@ module _ (gs : List SignalKind) (ks : List Kind) (C : Checked gs ks) where
 
   -- legal marks from what is known of the tree
   make : (now : Bool) (ms : List Mark) → length ms ≡ length ks → Lawful (marked (tree-at ks 0) ms) → live (marked (tree-at ks 0) ms) ≡ true
-    → ((i : ℕ) → i < length ks → open-at ks ms i ≡ true → (now && reached (tree-at ks 0) ms i) ≡ true) → Legal now ks ms
+      → ((i : ℕ) → i < length ks → open-at ks ms i ≡ true → (now && reached (tree-at ks 0) ms i) ≡ true) → Legal now ks ms
   make now ms l g v o =
       record {
         many = l;
         each = λ i m. put-together (eqb i 0) (is-live (at ms 0)) (row-legal ms i (shape-at ks i)) (open-at ks ms i) (now && reached (tree-at ks 0) ms i)
-          (sym (live-root ms) ∙ v) (from-legal ks gs T ms g i m) (o i m)
+            (sym (live-root ms) ∙ v) (from-legal ks gs T ms g i m) (o i m);
       }
 
   in-root : (i : ℕ) → i < length ks → In (tree-at ks 0) i
@@ -72,7 +72,7 @@ module _ (gs : List SignalKind) (ks : List Kind) (C : Checked gs ks) where
   nests : (ms : List Mark) → Legal true ks ms → nested (marked (tree-at ks 0) ms) ≡ true
   nests ms L =
       to-nested ks (T .shaped) (T .once) ms (T .some-row)
-        (λ i u o. taken-apart (eqb i 0) (is-live (at ms 0)) (row-legal ms i (shape-at ks i)) (open-at ks ms i) (reached (tree-at ks 0) ms i) (L .each i (sound ks gs T .below i u)) o)
+      (λ i u o. taken-apart (eqb i 0) (is-live (at ms 0)) (row-legal ms i (shape-at ks i)) (open-at ks ms i) (reached (tree-at ks 0) ms i) (L .each i (sound ks gs T .below i u)) o)
 
   starts : Legal false ks (first-marks ks)
   starts =
@@ -84,7 +84,7 @@ module _ (gs : List SignalKind) (ks : List Kind) (C : Checked gs ks) where
       let e : marked t (begun t os) ≡ begin (blank t) = begun-same (length ks) t os (S .distinct) (S .below) (length-replicate (length ks) idle) ∙ ap begin (idle-blank t (length ks)) in
       let b = begin-legal (blank t) (r .0) (r .1) in
       make false (begun t os) (begun-kept t os .length ∙ length-replicate (length ks) idle) (subst Lawful (sym e) (b .0)) (ap live e ∙ b .1)
-        (λ i m o. absurd (false-true (from-closed ks (T .shaped) (T .once) (begun t os) (T .some-row) (ap no-open e ∙ begin-closed (blank t) n) i (in-root i m)) o))
+      (λ i m o. absurd (false-true (from-closed ks (T .shaped) (T .once) (begun t os) (T .some-row) (ap no-open e ∙ begin-closed (blank t) n) i (in-root i m)) o))
 
   after-step : (c : Config) (i : ℕ) → Legal true ks (c .0) → Ready ks c i → Legal true ks (from-root (tree-at ks 0) c i .0)
   after-step c i L r =
@@ -98,7 +98,7 @@ module _ (gs : List SignalKind) (ks : List Kind) (C : Checked gs ks) where
       let u = after-legal (c .1) (marked t (c .0)) g (p .0) (p .2) in
       let v = after-nested (c .1) (marked t (c .0)) g (nests (c .0) L) (p .0) (p .2) in
       make true (from-root t c i .0) (keeps-length N t S c i (L .many)) (subst Lawful (sym e) (u .0)) (ap live e ∙ u .1)
-        (λ j m o. from-nested ks (T .shaped) (T .once) (from-root t c i .0) (T .some-row) (ap nested e ∙ v) j (in-root j m) o)
+      (λ j m o. from-nested ks (T .shaped) (T .once) (from-root t c i .0) (T .some-row) (ap nested e ∙ v) j (in-root j m) o)
 
   after-end : (c : Config) → Legal true ks (c .0) → Legal false ks (ended (tree-at ks 0) (c .0) (c .1))
   after-end c L =
@@ -111,7 +111,7 @@ module _ (gs : List SignalKind) (ks : List Kind) (C : Checked gs ks) where
       let u = close-legal (c .1) (marked t (c .0)) g in
       let v : is-live (at (c .0) 0) ≡ true = at-root (is-live (at (c .0) 0)) _ (L .each 0 (T .some-row)) in
       make false ms (ended-kept t (c .0) (c .1) .length ∙ L .many) (subst Lawful (sym e) (u .0)) (ap live e ∙ u .1 ∙ live-root (c .0) ∙ v)
-        (λ j m o. absurd (false-true (from-closed ks (T .shaped) (T .once) ms (T .some-row) (ap no-open e ∙ close-closed (c .1) (marked t (c .0)) g) j (in-root j m)) o))
+      (λ j m o. absurd (false-true (from-closed ks (T .shaped) (T .once) ms (T .some-row) (ap no-open e ∙ close-closed (c .1) (marked t (c .0)) g) j (in-root j m)) o))
 
   pub marks-stay-legal : Marks-stay-legal gs ks
   marks-stay-legal =
@@ -119,8 +119,8 @@ module _ (gs : List SignalKind) (ks : List Kind) (C : Checked gs ks) where
         starts = starts;
         begins = λ ms L. record {
           many = L .many;
-          each = λ i l. weaker (eqb i 0) (is-live (at ms 0)) (row-legal ms i (shape-at ks i)) (open-at ks ms i) (reached (tree-at ks 0) ms i) (L .each i l)
+          each = λ i l. weaker (eqb i 0) (is-live (at ms 0)) (row-legal ms i (shape-at ks i)) (open-at ks ms i) (reached (tree-at ks 0) ms i) (L .each i l);
         };
         steps = λ c i L r. subst (λ (s : Config). Legal true ks (s .0)) (moves ks gs T c i r) (after-step c i L r);
-        ends = after-end
+        ends = after-end;
       }

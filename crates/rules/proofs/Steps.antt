@@ -58,13 +58,16 @@ uneffective (two n k p q) i d = let h = uneffective p i in let g = uneffective q
 pub In-dec : (t : Tree) (i : ℕ) → (In t i) ⊎ (¬ (In t i))
 In-dec (leaf n k) i = elim (ℕ-discrete i n) [ yes a ↦ inl a | no d ↦ inr d ]
 In-dec (one n k p) i = elim (ℕ-discrete i n) [
-    yes a ↦ inl (inl a)
-  | no d ↦ elim (In-dec p i) [ inl h ↦ inl (inr h) | inr g ↦ inr (elim [ inl a ↦ d a | inr h ↦ g h ]) ] ]
+  | yes a ↦ inl (inl a)
+  | no d ↦ elim (In-dec p i) [ inl h ↦ inl (inr h) | inr g ↦ inr (elim [ inl a ↦ d a | inr h ↦ g h ]) ]
+]
 In-dec (two n k p q) i = elim (ℕ-discrete i n) [
-    yes a ↦ inl (inl a)
+  | yes a ↦ inl (inl a)
   | no d ↦ elim (In-dec p i) [
-      inl h ↦ inl (inr (inl h))
-    | inr g ↦ elim (In-dec q i) [ inl h ↦ inl (inr (inr h)) | inr f ↦ inr (elim [ inl a ↦ d a | inr h ↦ elim h [ inl x ↦ g x | inr y ↦ f y ] ]) ] ] ]
+    | inl h ↦ inl (inr (inl h))
+    | inr g ↦ elim (In-dec q i) [ inl h ↦ inl (inr (inr h)) | inr f ↦ inr (elim [ inl a ↦ d a | inr h ↦ elim h [ inl x ↦ g x | inr y ↦ f y ] ]) ]
+  ]
+]
 
 -- what the step of statement i comes to
 abbrev pub result : Tree → List Mark → Signals → ℕ → Change
@@ -76,17 +79,19 @@ module _ (N n : ℕ) (p : Tree) (ms : List Mark) (d : ¬ (In p n)) (g : Distinct
   set-own m = getD-set-same ms n m idle (omega arith)
 
   pub begun-own : (m : Mark) → (at (begun p (set ms n m)) n ≡ m) × (marked p (begun p (set ms n m)) ≡ begin (marked p ms))
-  begun-own m =
-      (begun-kept p (set ms n m) .other n d ∙ set-own m,
-       begun-same N p (set ms n m) g f (length-set ms n m ∙ l) ∙ ap begin (unset p ms n m d))
+  begun-own m = (
+    begun-kept p (set ms n m) .other n d ∙ set-own m,
+    begun-same N p (set ms n m) g f (length-set ms n m ∙ l) ∙ ap begin (unset p ms n m d),
+  )
 
   pub idled-own : (m : Mark) → (at (idled p (set ms n m)) n ≡ m) × (marked p (idled p (set ms n m)) ≡ rest (marked p ms))
-  idled-own m =
-      (idled-kept p (set ms n m) .other n d ∙ set-own m,
-       idled-same N p (set ms n m) g f (length-set ms n m ∙ l) ∙ ap rest (unset p ms n m d))
+  idled-own m = (
+    idled-kept p (set ms n m) .other n d ∙ set-own m,
+    idled-same N p (set ms n m) g f (length-set ms n m ∙ l) ∙ ap rest (unset p ms n m d),
+  )
 
   own1 : (m : Mark) (k : One) (o : Bool)
-    → stepOne n m k o (marked p ms) ≡ cond (one-rule m k o) (some (marked (one n k p) (one-fired n m k p ms), one-effect k)) none
+      → stepOne n m k o (marked p ms) ≡ cond (one-rule m k o) (some (marked (one n k p) (one-fired n m k p ms), one-effect k)) none
   own1 m k o =
       let a₁ = begun-own underway in
       let a₂ = idled-own waiting in
@@ -97,7 +102,7 @@ module _ (N n : ℕ) (p : Tree) (ms : List Mark) (d : ¬ (In p n)) (g : Distinct
 
 module _ (N n : ℕ) (k : Two) (p q : Tree) (ms : List Mark) (d : Distinct (blank (two n k p q))) (f : Fits N (two n k p q)) (l : length ms ≡ N) where
   own2 : (e : Signals) (o : Bool)
-    → stepTwo e n (at ms n) k o (marked p ms) (marked q ms) ≡ cond (two-rule e (at ms n) k o) (some (marked (two n k p q) (two-fired n k p q ms), quiet)) none
+      → stepTwo e n (at ms n) k o (marked p ms) (marked q ms) ≡ cond (two-rule e (at ms n) k o) (some (marked (two n k p q) (two-fired n k p q ms), quiet)) none
   own2 e o =
       let fp : Fits N p = λ j h. f j (inr (inl h)) in
       let fq : Fits N q = λ j h. f j (inr (inr h)) in
@@ -119,8 +124,8 @@ module _ (N n : ℕ) (k : Two) (p q : Tree) (ms : List Mark) (d : Distinct (blan
   in-right i h ns c = (missed p ms i h, c .other n (d .1), unseen p ms ns c (d .2), uneffective p i h)
 
 inner1 : (n : ℕ) (k : One) (p : Tree) (m : Mark) (r : Bool) (t : Marked) (c : Change) (x : Effect)
-  → c ≡ cond r (some (t, x)) none
-  → cond (shut m k) none (inside (mone n k m) c) ≡ cond (not (shut m k) && r) (some (mone n k m t, x)) none
+    → c ≡ cond r (some (t, x)) none
+    → cond (shut m k) none (inside (mone n k m) c) ≡ cond (not (shut m k) && r) (some (mone n k m t, x)) none
 inner1 n k p m r t c x h = grind arith
 
 module _ (N : ℕ) (e : Signals) (i : ℕ) where
@@ -145,11 +150,12 @@ module _ (N : ℕ) (e : Signals) (i : ℕ) where
       let b′ = step-same q ms (d .4) fq l in
       let c = over-same p ms in
       elim (In-dec p i) [
-        inl h ↦
-          let r = unready q ms e i (d .2 i h) in
-          let g = in-left N n k p q ms d f l i h (fired p ms i) (fired-kept p ms i) in
-          grind arith
-      | inr h ↦
-          let r = unready p ms e i h in
-          let g = in-right N n k p q ms d f l i h (fired q ms i) (fired-kept q ms i) in
-          grind arith ]
+        | inl h ↦
+            let r = unready q ms e i (d .2 i h) in
+            let g = in-left N n k p q ms d f l i h (fired p ms i) (fired-kept p ms i) in
+            grind arith
+        | inr h ↦
+            let r = unready p ms e i h in
+            let g = in-right N n k p q ms d f l i h (fired q ms i) (fired-kept q ms i) in
+            grind arith
+      ]

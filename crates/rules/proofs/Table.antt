@@ -8,7 +8,7 @@ use native.Mathlib.Omega.{arith}
 use lib.ListN.{getD, set, length}
 use Rattle.rules.proofs.MarkedTrees.{Mark, idle, is-live, Leaf, One, Two, Marked, mleaf, mone, mtwo, live, Legal, Scoped, one-legal, two-legal}
 use Rattle.rules.proofs.MarkedTrees.{Binds as BindsT, Names as NamesT, NamesLeaf, NamesOne, NamesTwo, BindsOne}
-use Rattle.rules.proofs.Potential.{Turns, ends, Loops}
+use Rattle.rules.proofs.Potential.{Turns, ends, Loops, size}
 use Rattle.rules.proofs.ByNumber.{Has, Distinct, pick}
 use Rattle.rules.proofs.Shapes.{Kind, Nothing, Shape, no-part, one-part, two-parts, shape-at, Tree, leaf, one, two, node, tree-at, blank, at, marked}
 use Rattle.rules.proofs.Flat.{Sound}
@@ -16,7 +16,8 @@ use Rattle.rules.proofs.Tests.{Part, Rising, Once, Under, self, part, Sort, in
 use Rattle.rules.proofs.Frames.{In}
 pub use Rattle.routine.proofs.Trees.{unroll, trees, under-below, under-first, under-trans}
 use Rattle.routine.proofs.Trees.{In as InT, in-under as in-underT, under-in as under-inT}
-use Rattle.routine.proofs.Once.{Distinct as DistinctT, distinct as distinctT, disjoint as disjointT, every as everyT}
+use Rattle.routine.proofs.Once.{Distinct as DistinctT, distinct as distinctT, disjoint as disjointT, every as everyT, whole-size}
+use Rattle.routine.specs.Tree.{size as sizeT}
 
 -- numbers of a tree, with and without marks
 pub has-in : (t : Tree) (i : ℕ) → In t i → InT t i
@@ -62,7 +63,7 @@ module _ (ks : List Kind) (S : Rising ks) where
     legal-to L = trees ks S (λ i t. Legal (marked t ms)) (λ i l g. at-row i (shape-at ks i) (L i l) (λ a h. root-live a (S i l a h .1)) g)
       where
         at-row : (i : ℕ) (r : Shape) → row-legal ms i r ≡ true → ((a : ℕ) → Part r a → live (marked (tree-at ks a) ms) ≡ is-live (at ms a))
-          → ((a : ℕ) → Part r a → Legal (marked (tree-at ks a) ms)) → Legal (marked (node i r (tree-at ks)) ms)
+            → ((a : ℕ) → Part r a → Legal (marked (tree-at ks a) ms)) → Legal (marked (node i r (tree-at ks)) ms)
         at-row i (no-part k) o v g = o
         at-row i (one-part k a) o v g = (rw (v a refl) o, g a refl)
         at-row i (two-parts k a b) o v g = (rw (v a (inl refl), v b (inr refl)) o, g a (inl refl), g b (inr refl))
@@ -71,7 +72,7 @@ module _ (ks : List Kind) (S : Rising ks) where
     legal-row i l g = at-row (shape-at ks i) (λ a h. root-live a (S i l a h .1)) (subst (λ t. Legal (marked t ms)) (unroll ks S i l) g)
       where
         at-row : (r : Shape) → ((a : ℕ) → Part r a → live (marked (tree-at ks a) ms) ≡ is-live (at ms a)) → Legal (marked (node i r (tree-at ks)) ms)
-          → (row-legal ms i r ≡ true) × ((a : ℕ) → Part r a → Legal (marked (tree-at ks a) ms))
+            → (row-legal ms i r ≡ true) × ((a : ℕ) → Part r a → Legal (marked (tree-at ks a) ms))
         at-row (no-part k) v g = (g, λ a h. absurd h)
         at-row (one-part k a) v g = (rw (v a refl) at (g .0), λ b h. rw h (g .1))
         at-row (two-parts k a b) v g = (rw (v a (inl refl), v b (inr refl)) at (g .0), λ c h. elim h [ inl e ↦ rw e (g .1) | inr e ↦ rw e (g .2) ])
@@ -101,7 +102,7 @@ module _ (ks : List Kind) (S : Rising ks) where
     binds-at s = trees ks S (λ i t. BindsT (blank t) s → (j : ℕ) × Under ks i j × Binds (shape-at ks j) s) (λ i l g. at-row i (shape-at ks i) refl g)
       where
         at-row : (i : ℕ) (r : Shape) → shape-at ks i ≡ r → ((a : ℕ) → Part (shape-at ks i) a → BindsT (blank (tree-at ks a)) s → (j : ℕ) × Under ks a j × Binds (shape-at ks j) s)
-          → BindsT (blank (node i r (tree-at ks))) s → (j : ℕ) × Under ks i j × Binds (shape-at ks j) s
+            → BindsT (blank (node i r (tree-at ks))) s → (j : ℕ) × Under ks i j × Binds (shape-at ks j) s
         at-row i (no-part k) e g h = absurd h
         at-row i (one-part k a) e g (inl h) = (i, self, rw e h)
         at-row i (one-part k a) e g (inr h) = let x : Part (shape-at ks i) a = rw e refl in let y = g a x h in (y .0, under-first ks S {i = i} x (y .1), y .2)
@@ -112,7 +113,7 @@ module _ (ks : List Kind) (S : Rising ks) where
     names-at s = trees ks S (λ i t. NamesT (blank t) s → (j : ℕ) × Under ks i j × Mentions (shape-at ks j) s) (λ i l g. at-row i (shape-at ks i) refl g)
       where
         at-row : (i : ℕ) (r : Shape) → shape-at ks i ≡ r → ((a : ℕ) → Part (shape-at ks i) a → NamesT (blank (tree-at ks a)) s → (j : ℕ) × Under ks a j × Mentions (shape-at ks j) s)
-          → NamesT (blank (node i r (tree-at ks))) s → (j : ℕ) × Under ks i j × Mentions (shape-at ks j) s
+            → NamesT (blank (node i r (tree-at ks))) s → (j : ℕ) × Under ks i j × Mentions (shape-at ks j) s
         at-row i (no-part k) e g h = (i, self, rw e (inl h))
         at-row i (one-part k a) e g (inl h) = (i, self, rw e (one-mentions k a s h))
         at-row i (one-part k a) e g (inr h) = let x : Part (shape-at ks i) a = rw e refl in let y = g a x h in (y .0, under-first ks S {i = i} x (y .1), y .2)
@@ -140,7 +141,7 @@ module _ (ks : List Kind) (S : Rising ks) where
 
       -- nor does the other part
       not-beside : (i a b s : ℕ) → i < length ks → a < length ks → b < length ks → ((j : ℕ) → Under ks a j → ¬ (Under ks b j))
-        → BindsT (blank (tree-at ks a)) s → ¬ (NamesT (blank (tree-at ks b)) s)
+          → BindsT (blank (tree-at ks a)) s → ¬ (NamesT (blank (tree-at ks b)) s)
       not-beside i a b s l la lb d h g =
           let x = binds-at s a la h in
           let y = names-at s b lb g in
@@ -160,10 +161,12 @@ module _ (ks : List Kind) (S : Rising ks) where
               let y : Part (shape-at ks i) b = rw e (inr refl) in
               let d = disjoint i l k a b e in
               let la = S i l a x .1 in
-              let lb = S i l b y .1 in
-              (λ s h u. elim u [ inl v ↦ not-own i a s l x h (rw e (inl v)) | inr v ↦ not-beside i a b s l la lb d h v ],
-               λ s h u. elim u [ inl v ↦ not-own i b s l y h (rw e (inl v)) | inr v ↦ not-beside i b a s l lb la (λ j p q. d j q p) h v ],
-               g a x, g b y)
+              let lb = S i l b y .1 in (
+                λ s h u. elim u [ inl v ↦ not-own i a s l x h (rw e (inl v)) | inr v ↦ not-beside i a b s l la lb d h v ],
+                λ s h u. elim u [ inl v ↦ not-own i b s l y h (rw e (inl v)) | inr v ↦ not-beside i b a s l lb la (λ j p q. d j q p) h v ],
+                g a x,
+                g b y,
+              )
 
   pub turns : ((i : ℕ) → i < length ks → Turning ks (shape-at ks i)) → (i : ℕ) → i < length ks → Turns (blank (tree-at ks i))
   turns T = trees ks S (λ i t. Turns (blank t)) (λ i l g. at-row i (shape-at ks i) (T i l) g)
@@ -173,6 +176,14 @@ module _ (ks : List Kind) (S : Rising ks) where
       at-row i (one-part k a) h g = (h, g a refl)
       at-row i (two-parts k a b) h g = (g a (inl refl), g b (inr refl))
 
+same-size : (t : Tree) → size (blank t) ≡ sizeT t
+same-size (leaf n k) = refl
+same-size (one n k p) = let h = same-size p in omega arith
+same-size (two n k p q) = let h = same-size p in let g = same-size q in omega arith
+
+size-blank : (ks : List Kind) (S : Rising ks) (O : Once ks) → 0 < length ks → size (blank (tree-at ks 0)) ≤ length ks
+size-blank ks S O z = let h = same-size (tree-at ks 0) in let g = whole-size ks S O z in omega arith
+
 pub sound : (ks : List Kind) (sorts : List Sort) → Table ks sorts → Sound (length ks) (tree-at ks 0)
 sound ks sorts T =
     let S = T .shaped in
@@ -181,6 +192,7 @@ sound ks sorts T =
       distinct = distinct ks S (T .once) 0 z;
       below = λ i h. under-below ks S z (in-under ks S 0 z i h) .1;
       whole = λ i l. under-in ks S z (every ks S (T .once) (suc i) i z (omega arith) l);
+      small = size-blank ks S (T .once) z;
       scoped = scoped ks S (T .once) sorts (T .scopes) 0 z;
-      turns = turns ks S (T .turning) 0 z
+      turns = turns ks S (T .turning) 0 z;
     }

@@ -68,7 +68,7 @@ module _ (gs : List SignalKind) (ks : List Kind) (C : Checked gs ks) (i : ℕ) (
       record {
         legal = subst Legal (sym x) (after-legal e (marked t ms) g (p .0) (p .2) .0);
         never = λ w. falls e (marked t ms) g (turning ms) (p .0) (p .2) .never (ap may (sym x) ∙ w);
-        many = ap length (sym o) ∙ fired-kept t ms j .length
+        many = ap length (sym o) ∙ fired-kept t ms j .length;
       }
 
   stays : {ms ns : List Mark} → length ms ≡ length ks → Legal (marked t ms) → may (marked t ms) ≡ false → Inside-steps ks i ms ns → over t ns ≡ false
@@ -79,7 +79,7 @@ module _ (gs : List SignalKind) (ks : List Kind) (C : Checked gs ks) (i : ℕ) (
       stays (u .many ∙ m) (u .legal) (not-true _ (λ w. false-true f (u .never w))) rest-of
 
   pub takes-time : (ms ns : List Mark) → length ms ≡ length ks → can-end t ≡ false → ((j : ℕ) → contains t j ≡ true → at ms j ≡ idle)
-    → Inside-steps ks i (begun t ms) ns → over t ns ≡ false
+      → Inside-steps ks i (begun t ms) ns → over t ns ≡ false
   takes-time ms ns m c h s =
       let os = replicate (length ks) idle in
       let b : marked t ms ≡ blank t = frame t os ms (λ j u. h j (in-contains t j (has-in t j u)) ∙ sym (all-idle (length ks) j)) ∙ idle-blank t (length ks) in

@@ -12,7 +12,6 @@ use Rattle.rules.proofs.MarkedTrees.{BindsOne, NamesLeaf, NamesOne, NamesTwo}
 use Rattle.rules.proofs.Potential.{ends, Loops}
 use Rattle.rules.proofs.ByNumber.{pick}
 use Rattle.rules.proofs.Shapes.{Kind, Shape, no-part, one-part, two-parts, shape-at, tree-at, blank, at, Flat, stepped, Readies}
-
 pub use Rattle.routine.proofs.Trees.{Part, Rising, Under, self, part}
 pub use Rattle.routine.proofs.Once.{Once}
 pub use Rattle.routine.specs.declared.kinds.SignalKind.{SignalKind as Sort}
@@ -39,7 +38,7 @@ pub record Scopes (ks : List Kind) (sorts : List Sort) : Type 0 where
   pub inner-only : (i s : ℕ) → i < length ks → Binds (shape-at ks i) s → getD sorts s input ≡ inner
   pub alone : (i j s : ℕ) → i < length ks → j < length ks → Binds (shape-at ks i) s → Binds (shape-at ks j) s → i ≡ j
   pub within : (i s : ℕ) → i < length ks → Uses (shape-at ks i) s → getD sorts s input ≡ inner
-    → (j : ℕ) × (j < length ks) × Binds (shape-at ks j) s × Under ks j i
+      → (j : ℕ) × (j < length ks) × Binds (shape-at ks j) s × Under ks j i
 
 abbrev pub Turning : List Kind → Shape → Type 0
 Turning ks (no-part k) = Unit {0}
@@ -59,12 +58,8 @@ Legal-marks ks ms = (i : ℕ) → i < length ks → row-legal ms i (shape-at ks 
 -- the claims over flat data
 pub record Order-never-shows (ks : List Kind) : Type 0 where
   pub same : (s z y : Flat) (w u : List ℕ) → length (s .0) ≡ length ks → Legal-marks ks (s .0)
-    → Run (Readies (tree-at ks 0)) (stepped (tree-at ks 0)) s w z → Quiet (Readies (tree-at ks 0)) z
-    → Run (Readies (tree-at ks 0)) (stepped (tree-at ks 0)) s u y → Quiet (Readies (tree-at ks 0)) y
-    → (z ≡ y) × ((i : ℕ) → count ℕ-discrete i w ≡ count ℕ-discrete i u)
+      → Run (Readies (tree-at ks 0)) (stepped (tree-at ks 0)) s w z → Quiet (Readies (tree-at ks 0)) z
+      → Run (Readies (tree-at ks 0)) (stepped (tree-at ks 0)) s u y → Quiet (Readies (tree-at ks 0)) y
+      → (z ≡ y) × ((i : ℕ) → count ℕ-discrete i w ≡ count ℕ-discrete i u)
   pub bounded : (s z : Flat) (w : List ℕ) → length (s .0) ≡ length ks → Legal-marks ks (s .0)
-    → Run (Readies (tree-at ks 0)) (stepped (tree-at ks 0)) s w z → length w ≤ 4 * length ks
-  pub has-end : (s : Flat) → length (s .0) ≡ length ks → Legal-marks ks (s .0)
-    → (w : List ℕ) × (z : Flat) × Run (Readies (tree-at ks 0)) (stepped (tree-at ks 0)) s w z × Quiet (Readies (tree-at ks 0)) z
-  pub legal : (s z : Flat) (w : List ℕ) → length (s .0) ≡ length ks → Legal-marks ks (s .0)
-    → Run (Readies (tree-at ks 0)) (stepped (tree-at ks 0)) s w z → Legal-marks ks (z .0)
+      → Run (Readies (tree-at ks 0)) (stepped (tree-at ks 0)) s w z → length w ≤ 4 * length ks

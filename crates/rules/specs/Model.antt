@@ -98,7 +98,7 @@ closed gs ks c w =
       status = status-of (over (tree-at ks 0) (c .0));
       times = each-below (λ i. count ℕ-discrete i w) (length ks);
       steps = length w;
-      marks = ended (tree-at ks 0) (c .0) (c .1)
+      marks = ended (tree-at ks 0) (c .0) (c .1);
     }
 
 -- one instant, from the marks ms, for an input word

@@ -4,7 +4,6 @@ use mathlib.Core.Bool.{Bool, true, false, cond, not, _&&_, _||_}
 use Prim.Native.Nat.{ℕ}
 use native.Mathlib.Decide.{ℕ-discrete}
 use lib.ListN.{getD, set}
-
 pub use Rattle.routine.specs.declared.kinds.Mark.{Mark}
 pub use Rattle.routine.specs.declared.kinds.Mark.the-variants.{Idle as idle, Waiting as waiting, UnderWay as underway, Done as done}
 pub use Rattle.routine.specs.Kinds.{Leaf, nothing, stop, emit, wait, One, loop, kill, local, Two, sequence, parallel, when}

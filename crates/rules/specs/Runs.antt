@@ -1,4 +1,4 @@
--- (4), abstractly: runs of any labelled transition system (which labels are ready, and the state after one), and what a diamond gives
+-- runs of any labelled transition system (which labels are ready, and the state after one), and what a diamond gives
 use mathlib.Core.Path.{_≡_, refl}
 use mathlib.Core.List.{List, [], _∷_, map}
 use Prim.Native.Nat.{ℕ, _+_}

@@ -26,7 +26,7 @@ module _ (gs : List SignalKind) (ks : List Kind) where
   -- inside a statement that is over nothing is ready, and ready statements do not lie inside one another
   pub record Nothing-ready-inside : Type 0 where
     pub inside-over : (c : Config) (i j : ℕ) → Legal true ks (c .0) → i < length ks → over (tree-at ks i) (c .0) ≡ true
-      → contains (tree-at ks i) j ≡ true → ready (tree-at ks 0) (c .0) (c .1) j ≡ false
+        → contains (tree-at ks i) j ≡ true → ready (tree-at ks 0) (c .0) (c .1) j ≡ false
     pub never-inside : (c : Config) (i j : ℕ) → Legal true ks (c .0) → Ready ks c i → Ready ks c j → inside (tree-at ks i) j ≡ false
 
   -- two ready statements can be stepped in either order with the same result
@@ -39,10 +39,10 @@ module _ (gs : List SignalKind) (ks : List Kind) where
   -- equally often, as the model does
   pub record Order-never-shows : Type 0 where
     pub same : (c x y : Config) (v w : List ℕ) → Legal true ks (c .0)
-      → Run (Ready ks) (stepped ks) c v x → Quiet (Ready ks) x → Run (Ready ks) (stepped ks) c w y → Quiet (Ready ks) y
-      → (x ≡ y) × ((i : ℕ) → count ℕ-discrete i v ≡ count ℕ-discrete i w)
+        → Run (Ready ks) (stepped ks) c v x → Quiet (Ready ks) x → Run (Ready ks) (stepped ks) c w y → Quiet (Ready ks) y
+        → (x ≡ y) × ((i : ℕ) → count ℕ-discrete i v ≡ count ℕ-discrete i w)
     pub as-model : (c x : Config) (v : List ℕ) → Legal true ks (c .0) → Run (Ready ks) (stepped ks) c v x → Quiet (Ready ks) x
-      → (x ≡ settled ks (enough ks) c) × ((i : ℕ) → count ℕ-discrete i v ≡ count ℕ-discrete i (path ks (enough ks) c))
+        → (x ≡ settled ks (enough ks) c) × ((i : ℕ) → count ℕ-discrete i v ≡ count ℕ-discrete i (path ks (enough ks) c))
 
   -- from legal marks no more than 4 steps for each statement are possible, and the model is quiet after them
   pub record Instant-ends : Type 0 where

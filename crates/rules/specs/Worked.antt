@@ -40,7 +40,7 @@ relayed =
     record {
       signals = Output ∷ Output ∷ Output ∷ [];
       kinds = Parallel 1 6 ∷ Parallel 2 5 ∷ When 0 3 4 ∷ Emit 1 ∷ Nothing ∷ Emit 0 ∷ Sequence 7 8 ∷ Wait 1 ∷ Emit 2 ∷ [];
-      inputs = 0 ∷ []
+      inputs = 0 ∷ [];
     }
 
 -- 4: local L(when L(nothing, emit L))
@@ -53,7 +53,7 @@ killed =
     record {
       signals = Input ∷ Output ∷ [];
       kinds = Sequence 1 4 ∷ Kill 0 2 ∷ Loop 3 ∷ Stop ∷ Emit 1 ∷ [];
-      inputs = 0 ∷ 1 ∷ 0 ∷ []
+      inputs = 0 ∷ 1 ∷ 0 ∷ [];
     }
 
 -- 6: kill A(nothing), input A, present
@@ -66,7 +66,7 @@ new-life =
     record {
       signals = Output ∷ Own ∷ [];
       kinds = Loop 1 ∷ Local 1 2 ∷ Sequence 3 6 ∷ When 1 4 5 ∷ Emit 0 ∷ Nothing ∷ Sequence 7 8 ∷ Stop ∷ Emit 1 ∷ [];
-      inputs = 0 ∷ 0 ∷ 0 ∷ 0 ∷ []
+      inputs = 0 ∷ 0 ∷ 0 ∷ 0 ∷ [];
     }
 
 -- 8: parallel(emit A, wait A), output A

@@ -3,4 +3,5 @@ pub mod theorems;
 pub mod worked;
 
 pub use status::Status;
-pub use worked::{Summary, worked_routines};
+pub use worked::Summary;
+pub use worked::worked_routines;

@@ -10,5 +10,5 @@ returns c =
     let r = c .args .routine .now in
     record {
       value = ap (λ (n : ℕ). 4 * n) (c .count .ensures .value);
-      ends = instant-ends (signals-of (r .table)) (kinds-of (r .table)) (of-routine r)
+      ends = instant-ends (signals-of (r .table)) (kinds-of (r .table)) (of-routine r);
     }

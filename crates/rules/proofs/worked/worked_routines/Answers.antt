@@ -11,5 +11,5 @@ unfolding word-set tree tree-at check-of settled path ℕ-discrete
 returns c =
     record {
       lines = refl;
-      claims = (refl, (refl, (refl, (refl, (refl, (refl, (refl, (refl, (refl, (refl, (refl, (refl, (refl, tt)))))))))))))
+      claims = (refl, (refl, (refl, (refl, (refl, (refl, (refl, (refl, (refl, (refl, (refl, (refl, (refl, tt)))))))))))));
     }
