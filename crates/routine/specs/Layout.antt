@@ -127,3 +127,9 @@ read-of bytes = cond (headed bytes) (with-signals bytes (signals-from 0 (signal-
 -- each statement's fields fit: what the form asks of records that are read
 abbrev pub Formed : ℕ → List Kind → Type 0
 Formed g ks = (i : ℕ) → i < length ks → fits g (length ks) i (kind-at ks i) ≡ true
+
+-- two answers as one: the first refusal of the two, or both values
+abbrev pub both-of : {A B : Type 0} → Result A Refusal → Result B Refusal → Result (A × B) Refusal
+both-of (Err e) y = Err e
+both-of (Ok a) (Err e) = Err e
+both-of (Ok a) (Ok b) = Ok (a, b)

@@ -3,7 +3,7 @@ ghost use mathlib.Core.List.{List};
 ghost use mathlib.Core.Path.{_≡_};
 ghost use Prim.Native.Nat.{ℕ, _+_, _*_, _<_, _≤_};
 ghost use lib.ListN.{length, getD, take, drop};
-ghost use Rattle.routine.specs.Layout.{Headed, signal-kind, spelled, rises, fits, fitting, signals-from, records-from, read-of};
+ghost use Rattle.routine.specs.Layout.{Headed, signal-kind, spelled, rises, fits, fitting, signals-from, records-from, read-of, both-of};
 ghost use Rattle.std.specs.Of.Vec.{vec-items, vec-len};
 ghost use Rattle.routine.specs.Refusals.{Answers};
 ghost use Rattle.routine.specs.View.{content};
@@ -142,6 +142,20 @@ fn read_statements(
     Ok(made)
 }
 
+// Both parts of a table; where both are refused, the signals' refusal.
+fn both(
+    signals: Result<Vec<SignalKind>, Refusal>,
+    statements: Result<Vec<Statement>, Refusal>,
+) -> Result<(Vec<SignalKind>, Vec<Statement>), Refusal>
+    ensures { λ r. ⌜ r ≡ both-of signals statements ⌝ }
+{
+    match (signals, statements) {
+        (Err(refusal), _) => Err(refusal),
+        (Ok(_), Err(refusal)) => Err(refusal),
+        (Ok(signals), Ok(statements)) => Ok((signals, statements)),
+    }
+}
+
 // The table that the bytes say, or why they are none. The bytes may be any.
 pub fn read(heap: Global, bytes: &[u8]) -> Result<Table, Refusal>
     ensures { λ r. ⌜ Answers (read-of (now (bytes .entry))) content r ⌝ }
@@ -150,10 +164,11 @@ pub fn read(heap: Global, bytes: &[u8]) -> Result<Table, Refusal>
         return Err(Refusal::Form);
     };
     let split = 8 + signals;
-    let made = read_signals(heap, &bytes[8..split])?;
-    let statements = read_statements(heap, &bytes[split..], signals, count)?;
+    let made = read_signals(heap, &bytes[8..split]);
+    let statements = read_statements(heap, &bytes[split..], signals, count);
+    let (signals, statements) = both(made, statements)?;
     Ok(Table {
-        signals: made,
+        signals,
         statements,
     })
 }

@@ -29,3 +29,4 @@ pub mod Promises
 pub mod OpenLocals
 pub mod Stays
 pub mod TakesTime
+pub mod Sums

@@ -87,13 +87,24 @@ module _ (gs : List SignalKind) (ks : List Kind) (C : Checked gs ks) where
             ∙ ap (λ (s : Config). from-root t s i) mj ∙ moves ks gs T (stepped ks c j) i w′,
       )
 
+  false-true : {b : Bool} → b ≡ false → b ≡ true → ⊥
+  false-true p q = let z : _≡_ {A = ℕ} 0 1 = cc in omega arith
+
+  -- what is ready is a statement
+  pub ready-below : (i : ℕ) (ms : List Mark) (e : Signals) → ready (tree-at ks 0) ms e i ≡ true → i < length ks
+  ready-below i ms e r =
+      elim (In-dec (tree-at ks 0) i) [
+        | inl u ↦ sound ks gs T .below i u
+        | inr d ↦ absurd (false-true (unready (tree-at ks 0) ms e i d) r)
+      ]
+
   pub nothing-ready-inside : Nothing-ready-inside gs ks
   nothing-ready-inside =
       record {
         inside-over = λ c i j L l o h.
             not-true _ (none-in-over ks (T .shaped) (T .once) (T .some-row) (c .0) (c .1) i j l (L .many) (at-tree c i l L) (whole i l) o (in-has (tree-at ks i) j (contains-in (tree-at ks i) j h)));
         never-inside = λ c i j L r r′.
-            let l = below i (c .0) (c .1) r in
+            let l = ready-below i (c .0) (c .1) r in
             not-true _ (λ h. none-in-ready ks (T .shaped) (T .once) (T .some-row) (c .0) (c .1) i j l (L .many) (at-tree c i l L) (whole i l) r h
             (in-has (tree-at ks i) j (contains-in (tree-at ks i) j (inside-contains (tree-at ks i) j h))) r′);
       }
@@ -107,13 +118,3 @@ module _ (gs : List SignalKind) (ks : List Kind) (C : Checked gs ks) where
 
       at-tree : (c : Config) (i : ℕ) → i < length ks → Legal true ks (c .0) → Lawful (marked (tree-at ks i) (c .0))
       at-tree c i l L = legal-to ks (T .shaped) (c .0) (rows true ks (c .0) L) i l
-
-      false-true : {b : Bool} → b ≡ false → b ≡ true → ⊥
-      false-true p q = let z : _≡_ {A = ℕ} 0 1 = cc in omega arith
-
-      below : (i : ℕ) (ms : List Mark) (e : Signals) → ready (tree-at ks 0) ms e i ≡ true → i < length ks
-      below i ms e r =
-          elim (In-dec (tree-at ks 0) i) [
-            | inl u ↦ sound ks gs T .below i u
-            | inr d ↦ absurd (false-true (unready (tree-at ks 0) ms e i d) r)
-          ]

@@ -75,6 +75,11 @@ abbrev pub each-below : (ℕ → ℕ) → ℕ → List ℕ
 each-below f zero = []
 each-below f (suc n) = each-below f n ++ (f n ∷ [])
 
+-- the sum of a list
+abbrev pub total : List ℕ → ℕ
+total [] = 0
+total (n ∷ ns) = n + total ns
+
 -- terminated if statement 0 was over
 abbrev pub status-of : Bool → Status
 status-of true = Terminated

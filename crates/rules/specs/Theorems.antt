@@ -13,7 +13,7 @@ use Rattle.routine.specs.Meaning.{passes}
 use Rattle.rules.specs.Runs.{Run, Quiet, count}
 use Rattle.rules.specs.Rules.{Mark, idle, Signals, at, begun, over, ready, fire, ended}
 use Rattle.rules.specs.Legal.{Legal}
-use Rattle.rules.specs.Model.{Config, Ready, stepped, settled, path, enough, first-marks}
+use Rattle.rules.specs.Model.{Config, Ready, stepped, settled, path, enough, first-marks, total, Outcome, instant}
 
 -- the signals and statements of a routine: what reading and checking leave
 pub record Checked (gs : List SignalKind) (ks : List Kind) : Type 0 where
@@ -69,3 +69,8 @@ module _ (gs : List SignalKind) (ks : List Kind) where
       (i : ℕ) (ms ns : List Mark) → i < length ks → length ms ≡ length ks → can-end (tree-at ks i) ≡ false
       → ((j : ℕ) → contains (tree-at ks i) j ≡ true → at ms j ≡ idle)
       → Inside-steps ks i (begun (tree-at ks i) ms) ns → over (tree-at ks i) ns ≡ false
+
+module _ (gs : List SignalKind) (ks : List Kind) where
+  -- the steps that the model counts are the sum of how often each statement was stepped
+  abbrev pub Steps-add-up : Type 0
+  Steps-add-up = (ms : List Mark) (input : ℕ) → Legal false ks ms → total (instant gs ks ms input .times) ≡ instant gs ks ms input .steps

@@ -3,7 +3,7 @@ ghost use Prim.Native.Nat.{_*_};
 ghost use mathlib.Core.Path.{_≡_};
 ghost use lib.ListN.{length};
 ghost use Rattle.routine.specs.View.{signals-of, kinds-of};
-ghost use Rattle.rules.specs.Theorems.{Checked, Nothing-ready-inside, Either-order, Order-never-shows, Instant-ends, Marks-stay-legal, Takes-time};
+ghost use Rattle.rules.specs.Theorems.{Checked, Nothing-ready-inside, Either-order, Order-never-shows, Instant-ends, Steps-add-up, Marks-stay-legal, Takes-time};
 use routine::Routine;
 
 // Inside a statement that is over nothing is ready, and ready statements do not lie inside one another.
@@ -22,9 +22,11 @@ pub fn order_never_shows(routine: &Routine)
     ensures { λ _. ⌜ Order-never-shows (signals-of (now (routine .entry) .table)) (kinds-of (now (routine .entry) .table)) ⌝ }
 {}
 
-// The most steps that an instant can have: 4 for each statement. The model is quiet after them.
+// The most steps that an instant can have: 4 for each statement. The model is quiet after them, and the steps that it
+// counts are the sum of how often it stepped each statement.
 pub fn most_steps(routine: &Routine) -> usize
     ensures value { λ r. ⌜ r ≡ 4 * length (kinds-of (now (routine .entry) .table)) ⌝ }
+    ensures sums { λ _. ⌜ Steps-add-up (signals-of (now (routine .entry) .table)) (kinds-of (now (routine .entry) .table)) ⌝ }
     ensures ends { λ _. ⌜ Instant-ends (signals-of (now (routine .entry) .table)) (kinds-of (now (routine .entry) .table)) ⌝ }
 {
     4 * routine.count()
