@@ -21,7 +21,7 @@ use Rattle.rules.proofs.Frames.{In, Fits, marked-rest}
 use Rattle.rules.proofs.Steps.{result, step-same, fired-kept}
 
 -- a tree tells its marks
-same-marks : (t : Tree) (ms ns : List Mark) → marked t ms ≡ marked t ns → (i : ℕ) → In t i → at ms i ≡ at ns i
+pub same-marks : (t : Tree) (ms ns : List Mark) → marked t ms ≡ marked t ns → (i : ℕ) → In t i → at ms i ≡ at ns i
 same-marks (leaf n k) ms ns e i h = grind arith
 same-marks (one n k p) ms ns e i h = let g = same-marks p ms ns in grind arith
 same-marks (two n k p q) ms ns e i h = let g = same-marks p ms ns in let f = same-marks q ms ns in grind arith
