@@ -6,18 +6,18 @@ pub returns-in-Some : goal.returns-in-Some
 returns-in-Some c = fails_parts c.args.table _ c.in-Some.ensures
 
 pub returns-in-Some-offender : goal.returns-in-Some-offender
-returns-in-Some-offender c = fails_use c.args.table c.in-default.ensures _ c.in-Some-offender.ensures
+returns-in-Some-offender c = fails_use c.args.table c.in_default.ensures _ c.in-Some-offender.ensures
 
 pub returns-in-Some-offender-2 : goal.returns-in-Some-offender-2
-returns-in-Some-offender-2 c = fails_scope c.args.table c.in-default.ensures c.in-default-offender.ensures _ c.in-Some-offender-2.ensures
+returns-in-Some-offender-2 c = fails_scope c.args.table c.in_default.ensures c.in_default-offender.ensures _ c.in-Some-offender-2.ensures
 
 pub returns-in-Some-offender-3 : goal.returns-in-Some-offender-3
-returns-in-Some-offender-3 c = fails_loop c.args.table c.in-default.ensures c.in-default-offender.ensures c.in-default-offender-2.ensures _ c.in-Some-offender-3.ensures
+returns-in-Some-offender-3 c = fails_loop c.args.table c.in_default.ensures c.in_default-offender.ensures c.in_default-offender-2.ensures _ c.in-Some-offender-3.ensures
 
-pub invariant-of-result : goal.invariant-of-result
-invariant-of-result c =
-    (passed c.args.table (fails_none c.args.table c.in-default.ensures c.in-default-offender.ensures c.in-default-offender-2.ensures c.in-default-offender-3.ensures), tt)
+pub invariant_of-result : goal.invariant_of-result
+invariant_of-result c =
+    record { passed = passed c.args.table (fails_none c.args.table c.in_default.ensures c.in_default-offender.ensures c.in_default-offender-2.ensures c.in_default-offender-3.ensures) }
 
 pub returns : goal.returns
 returns c =
-    (fails_none c.args.table c.in-default.ensures c.in-default-offender.ensures c.in-default-offender-2.ensures c.in-default-offender-3.ensures, refl)
+    (fails_none c.args.table c.in_default.ensures c.in_default-offender.ensures c.in_default-offender-2.ensures c.in_default-offender-3.ensures, refl)

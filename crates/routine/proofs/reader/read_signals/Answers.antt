@@ -4,12 +4,12 @@ use Rattle.routine.specs.Layout.{signals_from}
 use Rattle.routine.proofs.Entries.{after, signals_more, signals_less}
 use Rattle.routine.proofs.reader.read_signals.Goals as goal
 
-pub returns-in-default : goal.returns-in-default
-returns-in-default c _ = signals_less c.args.bytes.now c.loop-signal.signal c.loop-signal-test.true _ _ c.in-default.ensures c.loop-signal.invariant
+pub returns-in_default : goal.returns-in_default
+returns-in_default c _ = signals_less c.args.bytes.now c.loop-signal.signal c.loop-signal-test.true _ _ c.in_default.ensures c.loop-signal.invariant
 
 pub loop-signal-preserved : goal.loop-signal-preserved
 loop-signal-preserved c =
-    signals_more c.args.bytes.now c.loop-signal.signal c.loop-signal-test.true _ _ _ _ c.in-Some.ensures c.in-ok-push.ensures.items c.loop-signal.invariant
+    signals_more c.args.bytes.now c.loop-signal.signal c.loop-signal-test.true _ _ _ _ c.in-Some.ensures c.in_ok-push.ensures.items c.loop-signal.invariant
 
 pub returns : goal.returns
 returns c =

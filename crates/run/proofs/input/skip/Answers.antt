@@ -5,4 +5,4 @@ use Rattle.run.proofs.input.skip.Goals as goal
 pub returns : goal.returns
 returns c =
     let bs = c.args.bytes.now in
-    c.split-at.ensures.back ∙ ap (λ (n : ℕ). drop n bs) c.min.ensures ∙ drop_min c.args.n bs
+    c.split_at.ensures.back ∙ ap (λ (n : ℕ). drop n bs) c.min.ensures ∙ drop_min c.args.n bs

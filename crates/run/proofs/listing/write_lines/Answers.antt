@@ -14,8 +14,8 @@ returns-in-Err g c =
     let k = c.loop-k.k in
     let i = c.loop-k.invariant in
     let todo = ap (λ l. string_bytes c.loop-k.out ++ lines (signals_of o) (kinds_of o) (state_of g.B.Board.present c.loop-k.count) l) (sym (words_more bs n k c.loop-k-test.true)) ∙ i.2 in
-    line_last g.B.Board.present (signals_of o) (kinds_of o) c.loop-k.count c.react.new.self c.word-at.result (word_at bs (8 * k)) (words_from bs (n - (k + 1)) (k + 1))
-    (string_bytes c.loop-k.out) (string_bytes c.write-refusal.new.out) _ i.0 i.1 c.word-at.ensures todo c.in-Err.refusal c.in-Err.ensures c.in-ok-write-refusal.ensures
+    line_last g.B.Board.present (signals_of o) (kinds_of o) c.loop-k.count c.react.new.self c.word_at.result (word_at bs (8 * k)) (words_from bs (n - (k + 1)) (k + 1))
+    (string_bytes c.loop-k.out) (string_bytes c.write_refusal.new.out) _ i.0 i.1 c.word_at.ensures todo c.in-Err.refusal c.in-Err.ensures c.in_ok-write_refusal.ensures
 
 pub loop-k-preserved : goal.loop-k-preserved
 loop-k-preserved g c =
@@ -25,8 +25,8 @@ loop-k-preserved g c =
     let k = c.loop-k.k in
     let i = c.loop-k.invariant in
     let todo = ap (λ l. string_bytes c.loop-k.out ++ lines (signals_of o) (kinds_of o) (state_of g.B.Board.present c.loop-k.count) l) (sym (words_more bs n k c.loop-k-test.true)) ∙ i.2 in
-    line_more g.B.Board.present (signals_of o) (kinds_of o) c.loop-k.count c.react.new.self c.word-at.result (word_at bs (8 * k)) (words_from bs (n - (k + 1)) (k + 1))
-    (string_bytes c.loop-k.out) (string_bytes c.write-closing.new.out) _ i.0 i.1 c.word-at.ensures todo c.in-Ok.closing c.in-Ok.ensures c.in-ok-write-closing.ensures
+    line_more g.B.Board.present (signals_of o) (kinds_of o) c.loop-k.count c.react.new.self c.word_at.result (word_at bs (8 * k)) (words_from bs (n - (k + 1)) (k + 1))
+    (string_bytes c.loop-k.out) (string_bytes c.write_closing.new.out) _ i.0 i.1 c.word_at.ensures todo c.in-Ok.closing c.in-Ok.ensures c.in_ok-write_closing.ensures
 
 pub returns : goal.returns
 returns g c =

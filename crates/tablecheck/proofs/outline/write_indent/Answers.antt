@@ -7,7 +7,7 @@ pub loop-init : goal.loop-init
 loop-init c = indent_none (string_bytes c.args.out.now)
 
 pub loop-preserved : goal.loop-preserved
-loop-preserved c = indent_more _ _ _ c.loop.counter c.loop.invariant c.in-ok-write.ensures.bytes
+loop-preserved c = indent_more _ _ _ c.loop.counter c.loop.invariant c.in_ok-write.ensures.bytes
 
 pub returns : goal.returns
 returns c =

@@ -5,5 +5,5 @@ use Rattle.tablecheck.proofs.outline.write_line.Goals as goal
 
 pub returns : goal.returns
 returns c =
-    two_steps (string_bytes c.args.out.now) (string_bytes c.write-indent.new.out) (string_bytes c.writeln.new.self) (indent c.args.depth) _
-    c.in-ok-write-indent.ensures c.in-ok-writeln.ensures.bytes
+    two_steps (string_bytes c.args.out.now) (string_bytes c.write_indent.new.out) (string_bytes c.writeln.new.self) (indent c.args.depth) _
+    c.in_ok-write_indent.ensures c.in_ok-writeln.ensures.bytes

@@ -6,4 +6,4 @@ pub returns : goal.returns
 returns c =
     census_same (string_bytes c.writeln.new.self) (string_bytes c.args.out.now)
     c.signals-inputs.result c.signals-outputs.result c.signals-locals.result c.count-statements.result _ _ _ _
-    c.in-ok-writeln.ensures.bytes c.signals-inputs.ensures c.signals-outputs.ensures c.signals-locals.ensures c.count-statements.ensures.value
+    c.in_ok-writeln.ensures.bytes c.signals-inputs.ensures c.signals-outputs.ensures c.signals-locals.ensures c.count-statements.ensures.value

@@ -8,5 +8,5 @@ use Rattle.tablecheck.proofs.report.write_routine.Goals as goal
 pub returns : goal.returns
 returns c =
     let t = c.args.routine.now.table in
-    two_steps (string_bytes c.args.out.now) (string_bytes c.write-census.new.out) (string_bytes c.write-outline.new.out) (census (signals_of t) (kinds_of t)) (outline (kinds_of t) 0 (tree_at (kinds_of t) 0))
-    c.in-ok-write-census.ensures c.in-ok-write-outline.ensures
+    two_steps (string_bytes c.args.out.now) (string_bytes c.write_census.new.out) (string_bytes c.write_outline.new.out) (census (signals_of t) (kinds_of t)) (outline (kinds_of t) 0 (tree_at (kinds_of t) 0))
+    c.in_ok-write_census.ensures c.in_ok-write_outline.ensures

@@ -7,15 +7,15 @@ fire-requires g c =
     let s = c.args.self.now in
     record { within = c.requires.within; ready = ready_applies s.rows _ c.args.k _ c.requires.within c.requires.ready c.here-here.ensures }
 
-pub invariant-of-self : goal.invariant-of-self
-invariant-of-self g c =
+pub invariant_of-self : goal.invariant_of-self
+invariant_of-self g c =
     let s = c.args.self.now in (
       step_sound s.phase s.rows _ _ c.args.k c.requires.live s.legal c.requires.ready c.fire.ensures,
       ((λ h. absurd (open_not_over s.phase c.requires.live h)), ((λ h. absurd (never _ c.requires.live h)), (s.room, tt))),
     )
 
-pub invariant-of-self-else-self-lt65535 : goal.invariant-of-self-else-self-lt65535
-invariant-of-self-else-self-lt65535 g c =
+pub invariant_of-self-else-self-lt65535 : goal.invariant_of-self-else-self-lt65535
+invariant_of-self-else-self-lt65535 g c =
     let s = c.args.self.now in (
       step_sound s.phase s.rows _ _ c.args.k c.requires.live s.legal c.requires.ready c.fire.ensures,
       ((λ h. absurd (open_not_over s.phase c.requires.live h)), ((λ h. absurd (never _ c.requires.live h)), (s.room, tt))),

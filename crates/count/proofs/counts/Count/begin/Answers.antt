@@ -2,8 +2,8 @@ use Rattle.std.proofs.Common.{false, refl}
 use Rattle.count.proofs.Sound.{begin_sound, never}
 use Rattle.count.proofs.counts.Count.begin.Goals as goal
 
-pub invariant-of-self : goal.invariant-of-self
-invariant-of-self g c =
+pub invariant_of-self : goal.invariant_of-self
+invariant_of-self g c =
     let s = c.args.self.now in
     let r = c.in-None.ensures.room in
     (begin_sound s.phase s.rows r.1 s.legal, ((λ h. absurd (never false h refl)), ((λ h. refl), ((λ h. r.0), tt))))

@@ -2,14 +2,14 @@ use Rattle.std.proofs.Common.{refl, rules}
 use Rattle.count.proofs.Sound.{close_keeps, close_finished, after_not_open, never}
 use Rattle.count.proofs.counts.Count.close.Goals as goal
 
-pub invariant-of-self : goal.invariant-of-self
-invariant-of-self g c =
+pub invariant_of-self : goal.invariant_of-self
+invariant_of-self g c =
     let s = c.args.self.now in
     let o = c.in-None.ensures.live in
-    let f = c.phase-after-self.ensures in (
-      close_keeps c.phase-after-self.result s.phase c.over-over.result s.rows _ _ f o s.legal c.end.ensures,
+    let f = c.phase_after-self.ensures in (
+      close_keeps c.phase_after-self.result s.phase c.over-over.result s.rows _ _ f o s.legal c.end.ensures,
       (
-        close_finished c.phase-after-self.result s.phase c.over-over.result s.rows _ _ f c.over-over.ensures o s.legal c.end.ensures,
+        close_finished c.phase_after-self.result s.phase c.over-over.result s.rows _ _ f c.over-over.ensures o s.legal c.end.ensures,
         ((λ h. refl), ((λ h. absurd (never _ h (after_not_open _ _ f))), tt)),
       ),
     )

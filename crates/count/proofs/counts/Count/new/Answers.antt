@@ -8,8 +8,8 @@ use Rattle.count.proofs.counts.Count.new.Goals as goal
 abbrev start : List Mark → List Bool → State
 start ms e = record { phase = Resting; closed = 0; steps = 0; marks = ms; present = e }
 
-pub invariant-of-result : goal.invariant-of-result
-invariant-of-result g c =
+pub invariant_of-result : goal.invariant_of-result
+invariant_of-result g c =
     (new_keeps _ _ _ c.idle.ensures c.begin.ensures, ((λ h. absurd (never false h refl)), ((λ h. refl), ((λ h. absurd (never false h refl)), tt))))
 
 pub returns : goal.returns

@@ -5,13 +5,13 @@ use Rattle.count.specs.CountView.{signals_of}
 use Rattle.count.specs.Calls.{stray, first_stray}
 use Rattle.count.proofs.counts.Count.stray.Goals as goal
 
-pub returns-then-is-stray : goal.returns-then-is-stray
+pub returns-then-is_stray : goal.returns-then-is_stray
 unfolding first_stray
-returns-then-is-stray g c =
-    sym (lowest_here (stray (signals_of c.args.self.now) c.args.word) 64 c.loop-s.s c.loop-s.invariant (sym c.if-is-stray.ensures) (omega arith))
+returns-then-is_stray g c =
+    sym (lowest_here (stray (signals_of c.args.self.now) c.args.word) 64 c.loop-s.s c.loop-s.invariant (sym c.if-is_stray.ensures) (omega arith))
 
 pub loop-s-preserved : goal.loop-s-preserved
-loop-s-preserved g c = lowest_more (stray (signals_of c.args.self.now) c.args.word) c.loop-s.s c.loop-s.invariant (sym c.if-is-stray.ensures)
+loop-s-preserved g c = lowest_more (stray (signals_of c.args.self.now) c.args.word) c.loop-s.s c.loop-s.invariant (sym c.if-is_stray.ensures)
 
 pub returns : goal.returns
 unfolding first_stray

@@ -2,19 +2,19 @@ use Rattle.std.proofs.Common.{vec_items, vec_len, refl, arith, rules}
 use Rattle.count.proofs.RowLists.{kinds_kept, marks_set, formed_kept, passes_kept}
 use Rattle.count.proofs.rows.Rows.put.Goals as goal
 
-pub invariant-of-self : goal.invariant-of-self
-invariant-of-self c =
+pub invariant_of-self : goal.invariant_of-self
+invariant_of-self c =
     let t = c.args.self.now.routine.table in
     let v = t.statements in
-    let e = kinds_kept (vec_items v) c.args.i _ _ (omega (arith, v.ok.0)) c.index-mut-row.ensures.value c.set-mark.ensures.kept in
+    let e = kinds_kept (vec_items v) c.args.i _ _ (omega (arith, v.ok.0)) c.index_mut-row.ensures.value c.set_mark.ensures.kept in
     ((t.few, (t.some, (t.most, (formed_kept _ _ _ e t.formed, tt)))), (passes_kept _ _ _ e c.args.self.now.routine.passed, tt))
 
 pub returns : goal.returns
 returns c =
     let v = c.args.self.now.routine.table.statements in
     record {
-      kinds = kinds_kept (vec_items v) c.args.i _ _ (omega (arith, v.ok.0)) c.index-mut-row.ensures.value c.set-mark.ensures.kept;
+      kinds = kinds_kept (vec_items v) c.args.i _ _ (omega (arith, v.ok.0)) c.index_mut-row.ensures.value c.set_mark.ensures.kept;
       signals = refl;
       len = refl;
-      marks = marks_set (vec_items v) c.args.i _ _ c.set-mark.ensures.after;
+      marks = marks_set (vec_items v) c.args.i _ _ c.set_mark.ensures.after;
     }

@@ -3,8 +3,8 @@ use Rattle.std.proofs.lemmas.List.{set_past}
 use Rattle.signals.specs.StampSets.{length-stamp_set, stamp_set-set, bounded_set}
 use Rattle.signals.proofs.stamps.StampBoardBoard.raise.Goals as goal
 
-pub invariant-of-self : goal.invariant-of-self
-invariant-of-self c = search (rules, bounded_set)
+pub invariant_of-self : goal.invariant_of-self
+invariant_of-self c = search (rules, bounded_set)
 
 pub returns-then-signal-lt64 : goal.returns-then-signal-lt64
 returns-then-signal-lt64 c = search (rules, stamp_set-set)

@@ -3,8 +3,8 @@ use Rattle.std.proofs.lemmas.Bool.{le-ltb}
 use Rattle.signals.specs.StampSets.{stamp_set-next, stamp_set-replicate, bounded_replicate}
 use Rattle.signals.proofs.stamps.StampBoardBoard.wipe.Goals as goal
 
-pub invariant-of-self-else-self-lt4294967295 : goal.invariant-of-self-else-self-lt4294967295
-invariant-of-self-else-self-lt4294967295 c = search (rules, bounded_replicate)
+pub invariant_of-self-else-self-lt4294967295 : goal.invariant_of-self-else-self-lt4294967295
+invariant_of-self-else-self-lt4294967295 c = search (rules, bounded_replicate)
 
 pub returns-then-self-lt4294967295 : goal.returns-then-self-lt4294967295
 returns-then-self-lt4294967295 c = search (rules, stamp_set-next)
