@@ -1,5 +1,5 @@
 -- the four tests, one after another
-use Rattle.std.proofs.Common.{◌≡◌, ℕ, true, not, length, is_some, Some, None, Option, sym, refl, ap, ◌∙◌}
+use Rattle.std.proofs.Common.{◌≡◌, ℕ, true, not, length, is_some, Some, None, Option, sym, ap, ◌∙◌}
 use Rattle.routine.specs.declared.refusals.Refusal.{Refusal}
 use Rattle.routine.specs.declared.refusals.Refusal.TheVariants.{Parts, SignalUse, Scope, EndlessLoop}
 use Rattle.routine.specs.declared.tables.Table.{Table}

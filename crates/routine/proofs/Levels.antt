@@ -1,5 +1,5 @@
 -- one level of the tree, as code takes it
-use Rattle.std.proofs.Common.{◌≡◌, ℕ, zero, suc, ◌<◌, true, ◌||◌, eqb, List, length, refl, ap, ◌∙◌, arith}
+use Rattle.std.proofs.Common.{◌≡◌, ℕ, zero, suc, ◌<◌, true, ◌||◌, eqb, List, length, refl, arith}
 use Rattle.routine.specs.declared.kinds.Kind.{Kind}
 use Rattle.routine.specs.Kinds.{Shape, no_part, one_part, two_parts, shape, shape_at, kind_at}
 use Rattle.routine.specs.Tree.{Tree, node, tree, tree_at, contains, inside}

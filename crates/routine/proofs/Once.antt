@@ -1,11 +1,11 @@
 -- where each statement but the first is named once, every number occurs once in the tree
-use Rattle.std.proofs.Common.{◌≡◌, ℕ, zero, suc, ◌+◌, ◌<◌, ◌≤◌, Bool, true, false, cond, eqb, ltb, ◌⊎◌, List, length, sym, refl, ap, ◌∙◌, subst, inl, inr, arith}
+use Rattle.std.proofs.Common.{◌≡◌, ℕ, zero, suc, ◌+◌, ◌<◌, ◌≤◌, cond, eqb, ltb, ◌⊎◌, List, length, sym, refl, ap, ◌∙◌, subst, inl, inr, arith}
 use native.Mathlib.Decide.{ℕ_discrete, dec_lt}
 use Rattle.routine.specs.declared.kinds.Kind.{Kind}
 use Rattle.routine.specs.Kinds.{Two, Shape, no_part, one_part, two_parts, shape_at}
-use Rattle.routine.specs.Tree.{Tree, leaf, one, two, node, tree_at, contains, occurs, size}
+use Rattle.routine.specs.Tree.{Tree, leaf, one, two, node, tree_at, occurs, size}
 use Rattle.routine.specs.Meaning.{names, named}
-use Rattle.routine.proofs.Trees.{Part, Rising, In, Under, self, part, unroll, trees, under_below, under_first, in_under, under_in}
+use Rattle.routine.proofs.Trees.{Part, Rising, In, Under, self, part, trees, under_below, in_under, under_in}
 
 -- each statement but the first is named once
 abbrev pub Once : List Kind → Type 0

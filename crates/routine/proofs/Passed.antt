@@ -1,12 +1,12 @@
 -- what a table that passes has
-use Rattle.std.proofs.Common.{◌≡◌, ℕ, ◌<◌, ◌≤◌, Bool, true, false, not, ◌&&◌, eqb, List, length, is_some, Some, None, Option, sym, refl, ap, ◌∙◌, arith}
+use Rattle.std.proofs.Common.{◌≡◌, ℕ, ◌<◌, true, false, not, List, length, is_some, Some, None, Option, refl, arith}
 use Rattle.routine.specs.declared.kinds.SignalKind.{SignalKind}
 use Rattle.routine.specs.declared.kinds.Kind.{Kind}
 use Rattle.routine.specs.declared.refusals.Refusal.{Refusal}
 use Rattle.routine.specs.declared.refusals.Refusal.TheVariants.{Parts, SignalUse, Scope, EndlessLoop}
 use Rattle.routine.specs.Search.{lowest}
 use Rattle.routine.specs.Kinds.{kind_at}
-use Rattle.routine.specs.Meaning.{named, stray, misuses, unscoped, endless, refusing, check_of, passes}
+use Rattle.routine.specs.Meaning.{stray, misuses, unscoped, endless, refusing, check_of, passes}
 use Rattle.routine.proofs.Searches.{none_below}
 use Rattle.routine.proofs.Once.{Once}
 

@@ -1,5 +1,5 @@
 -- from the entries to the whole table
-use Rattle.std.proofs.Common.{◌≡◌, ℕ, ◌+◌, ◌-◌, ◌*◌, ◌<◌, ◌≤◌, Bool, true, false, cond, List, length, take, drop, is_some, Ok, Err, vec_items, Result, sym, refl, ap, ◌∙◌, subst, ap₂, arith}
+use Rattle.std.proofs.Common.{◌≡◌, ℕ, ◌+◌, ◌-◌, ◌*◌, ◌<◌, true, cond, List, length, take, drop, is_some, Ok, Err, vec_items, Result, sym, ap, ◌∙◌, subst, arith}
 use Rattle.std.proofs.lemmas.List.{take_rest, length-take, length-drop, length-map}
 use Rattle.std.specs.Global.{Vec}
 use Rattle.routine.specs.declared.kinds.SignalKind.{SignalKind}

@@ -1,7 +1,6 @@
 -- the tree of a table that has its form: it does not depend on the fuel, and what holds of it is shown from the parts up
-use Rattle.std.proofs.Common.{◌≡◌, ℕ, zero, suc, ◌+◌, ◌<◌, ◌≤◌, Bool, true, false, ◌&&◌, ◌||◌, ◌⊎◌, List, length, sym, refl, ap, ◌∙◌, subst, ap₂, inl, inr, arith}
+use Rattle.std.proofs.Common.{◌≡◌, ℕ, zero, suc, ◌+◌, ◌<◌, ◌≤◌, true, ◌⊎◌, List, length, sym, refl, ap, subst, ap₂, inl, inr, arith}
 use Rattle.routine.specs.declared.kinds.Kind.{Kind}
-use Rattle.routine.specs.declared.kinds.Kind.TheVariants.{Nothing, Stop, Emit, Wait, Sequence, Parallel, Loop, When, Kill, Local}
 use Rattle.routine.specs.Kinds.{Shape, no_part, one_part, two_parts, shape, kind_at, shape_at}
 use Rattle.routine.specs.Tree.{Tree, leaf, one, two, node, tree, tree_at, contains}
 use Rattle.routine.specs.Layout.{fits, Formed}

@@ -1,5 +1,5 @@
 -- the tests of a table's meaning; each holds of the statements that fail
-use Rattle.std.specs.Prelude.{ℕ, zero, suc, ◌+◌, Bool, true, false, cond, not, ◌&&◌, ◌||◌, List, [], ◌∷◌, length, is_some, Some, None, Option, ◌==◌, slice_index_or}
+use Rattle.std.specs.Prelude.{ℕ, zero, suc, ◌+◌, Bool, true, false, cond, not, ◌&&◌, List, [], ◌∷◌, length, is_some, Some, None, Option, ◌==◌, slice_index_or}
 use Rattle.routine.specs.declared.kinds.SignalKind.{SignalKind}
 use Rattle.routine.specs.declared.kinds.SignalKind.TheVariants.{Input, Output, Local as Own}
 use Rattle.routine.specs.declared.kinds.Kind.{Kind}

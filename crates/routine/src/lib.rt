@@ -1,3 +1,5 @@
+#![tactic(auto)]
+
 pub mod checked;
 pub mod checker;
 pub mod kinds;

@@ -1,8 +1,8 @@
 -- the language in the words of its rules: computed tests, and a step told by a statement's number
-use Rattle.std.proofs.Common.{◌≡◌, ℕ, ◌+◌, ◌*◌, ◌≤◌, Bool, true, false, cond, not, ◌&&◌, ◌||◌, ◌⊎◌, List, [], ◌∷◌, length, get_or, set, refl, inl, inr}
+use Rattle.std.proofs.Common.{◌≡◌, ℕ, ◌*◌, ◌≤◌, Bool, false, cond, ◌||◌, ◌⊎◌, List, length, get_or}
 use mathlib.Core.Option.{Option, none, some}
 use native.Mathlib.Decide.{ℕ_discrete}
-use Rattle.rules.specs.Runs.{Run, Quiet, Perm, Out, count}
+use Rattle.rules.specs.Runs.{Run, Quiet, Perm, Out}
 use Rattle.rules.proofs.MarkedTrees.{Mark, idle, waiting, underway, done, Leaf, nothing, stop, emit, wait, One, loop, kill, local, Two, sequence, parallel, when}
 use Rattle.rules.proofs.MarkedTrees.{Marked, mleaf, mone, mtwo, begin, rest, Signals, Effect, quiet, raises, drops, apply, State, Scoped, Legal}
 use Rattle.rules.proofs.Potential.{size, Turns}

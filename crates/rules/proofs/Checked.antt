@@ -1,23 +1,23 @@
 -- what the checks of a routine say, in the words of the proofs
-use Rattle.std.proofs.Common.{◌≡◌, ℕ, ◌<◌, ◌≤◌, Bool, true, false, not, ◌&&◌, ◌⊎◌, List, length, get_or, is_some, Some, None, Option, sym, refl, ap, ◌∙◌, subst, ap₂, inl, inr, arith}
+use Rattle.std.proofs.Common.{◌≡◌, ℕ, ◌<◌, Bool, true, false, not, ◌&&◌, List, length, is_some, Some, None, Option, refl, ap, subst, arith}
 use Rattle.routine.specs.declared.kinds.Kind.{Kind}
 use Rattle.routine.specs.declared.kinds.SignalKind.{SignalKind}
-use Rattle.routine.specs.declared.kinds.SignalKind.TheVariants.{Input, Local as Own}
+use Rattle.routine.specs.declared.kinds.SignalKind.TheVariants.{Local as Own}
 use Rattle.routine.specs.declared.checked.Routine.{Routine}
 use Rattle.routine.specs.Layout.{Formed}
 use Rattle.routine.specs.View.{signals_of, kinds_of}
 use Rattle.routine.proofs.Whole.{some_statement}
 use Rattle.routine.specs.Search.{lowest, any}
-use Rattle.routine.specs.Kinds.{Shape, one_part, shape, kind_at, shape_at, loop}
+use Rattle.routine.specs.Kinds.{shape, kind_at, shape_at}
 use Rattle.routine.specs.Tree.{Tree, leaf, one, two, tree_at, contains, inside, can_end}
 use Rattle.routine.specs.Meaning.{is_local, signal_at, misuses, declares, encloses, in_scope, astray, unscoped, endless}
 use Rattle.routine.proofs.Searches.{found, lowest_below, none_below}
 use Rattle.routine.proofs.Trees.{Rising, rising, contains_in, in_under}
 use Rattle.routine.proofs.Passed.{Tested, tested, once}
 use Rattle.rules.specs.Theorems.{Checked}
-use Rattle.rules.proofs.Potential.{ends, Loops}
+use Rattle.rules.proofs.Potential.{ends}
 use Rattle.rules.proofs.Shapes.{blank}
-use Rattle.rules.proofs.Tests.{Binds, Uses, Under, Scopes, Turning, Table}
+use Rattle.rules.proofs.Tests.{Binds, Uses, Scopes, Turning, Table}
 
 -- what any finds
 any_says : (P : ℕ → Bool) (n : ℕ) → any P n ≡ true → (k : ℕ) × (k < n) × (P k ≡ true)

@@ -1,10 +1,9 @@
-use Rattle.std.proofs.Common.{◌≡◌, ℕ, zero, suc, ◌+◌, ◌*◌, ◌<◌, ◌≤◌, Bool, true, false, ◌⊎◌, List, [], ◌∷◌, length, sym, refl, ap, ◌∙◌, subst, ap₂, inl, inr, arith}
-use Rattle.rules.specs.Runs.{Run, still, then, Quiet}
+use Rattle.std.proofs.Common.{◌≡◌, ℕ, Bool, true, false, List, sym, ap, subst, ap₂, inl, inr, arith}
+use Rattle.rules.specs.Runs.{Run, still, then}
 use Rattle.rules.proofs.MarkedTrees.{Mark, Signals, apply}
 use Rattle.rules.proofs.Shapes.{Kind, tree_at, Flat, stepped, Readies}
-use Rattle.rules.proofs.Tests.{Sort, Table, LegalMarks}
+use Rattle.rules.proofs.Tests.{Sort, Table}
 use Rattle.rules.proofs.Claims.{Enabled, moved, Orderless}
-use Rattle.rules.proofs.Frames.{In}
 use Rattle.rules.proofs.Steps.{In-dec, unready}
 use Rattle.rules.proofs.Own.{told}
 use Rattle.rules.proofs.Final.{order_never_shows}

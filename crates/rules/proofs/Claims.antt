@@ -1,11 +1,8 @@
 -- the claims in the words that the code's contracts use: a step by the statement's own shape
-use Rattle.std.proofs.Common.{◌≡◌, ℕ, zero, suc, ◌+◌, ◌*◌, ◌<◌, ◌≤◌, Bool, true, false, List, [], ◌∷◌, length, replicate, refl}
+use Rattle.std.proofs.Common.{◌≡◌, ℕ, ◌*◌, ◌≤◌, List, length}
 use native.Mathlib.Decide.{ℕ_discrete}
 use Rattle.rules.specs.Runs.{Run, Quiet, count}
-use Rattle.rules.proofs.MarkedTrees.{apply, Mark, idle, Signals}
-use Rattle.rules.proofs.Shapes.{Kind, tree_at, ready, begun, Flat, Readies}
-use Rattle.rules.proofs.Ended.{ended}
-use Rattle.rules.proofs.Parts.{fire, effect_of}
+use Rattle.rules.proofs.Shapes.{Kind, Flat}
 use Rattle.rules.proofs.Tests.{LegalMarks}
 pub use Rattle.rules.specs.Model.{Ready as Enabled, stepped as moved}
 

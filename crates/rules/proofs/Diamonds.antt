@@ -1,8 +1,8 @@
 -- nothing is ready inside what is over or ready, and two steps can change places: straight from the legal marks
-use Rattle.std.proofs.Common.{◌≡◌, ℕ, ◌+◌, Bool, true, false, cond, not, ◌&&◌, ◌||◌, ◌⊎◌, sym, refl, ap, ◌∙◌, subst, inl, inr, arith}
-use Rattle.rules.proofs.MarkedTrees.{Mark, idle, waiting, underway, done, Leaf, nothing, stop, emit, wait, One, loop, kill, local, Two, sequence, parallel, when}
-use Rattle.rules.proofs.MarkedTrees.{Marked, mleaf, mone, mtwo, Pos, here, left, right, begin, rest, Over, Signals, Present, Ready, ReadyLeaf, ReadyOne, ReadyTwo, Opened}
-use Rattle.rules.proofs.MarkedTrees.{after, eff, apply, Effect, quiet, raises, drops, live, Legal, Binds, Names, Scoped, State, Can, next, Fine}
+use Rattle.std.proofs.Common.{◌≡◌, ℕ, true, false, ◌⊎◌, sym, refl, subst, inl, inr, arith}
+use Rattle.rules.proofs.MarkedTrees.{Mark, One, Two, sequence, parallel, when}
+use Rattle.rules.proofs.MarkedTrees.{Marked, mleaf, mone, mtwo, Pos, here, left, right, begin, rest, Over, Signals, Present, Ready, ReadyOne, ReadyTwo, Opened}
+use Rattle.rules.proofs.MarkedTrees.{after, eff, apply, Effect, quiet, raises, drops, live, Legal, Binds, Names, Scoped, Can, next, Fine}
 use Rattle.rules.specs.Runs.{Diamond}
 use Rattle.rules.proofs.Effects.{set_comm, set-set, set_other, set_more}
 

@@ -1,9 +1,8 @@
 -- the end of an instant, over lists and over trees
-use Rattle.std.proofs.Common.{◌≡◌, ℕ, Bool, true, false, cond, not, ◌&&◌, ◌||◌, List, [], ◌∷◌, get_or, set, refl}
+use Rattle.std.proofs.Common.{ℕ, Bool, false, cond, get_or}
 use Rattle.rules.proofs.MarkedTrees.{Mark, idle, waiting, underway, done, Leaf, nothing, stop, emit, wait, One, loop, kill, local, Two, sequence, parallel, when}
 use Rattle.rules.proofs.MarkedTrees.{Marked, mleaf, mone, mtwo, rest, begin, Signals}
-use Rattle.rules.proofs.ByNumber.{is_done, two_over, over as over_t}
-use Rattle.rules.proofs.Shapes.{Tree, leaf, one, two, at, begun, idled, over}
+use Rattle.rules.proofs.ByNumber.{two_over, over as over_t}
 pub use Rattle.rules.specs.Rules.{leaf_ended, one_ended, two_ended, ended}
 
 abbrev pub close0 : Mark → Leaf → Mark

@@ -1,13 +1,13 @@
 -- the end of an instant: lists and trees agree, and legal marks stay so
-use Rattle.std.proofs.Common.{◌≡◌, ℕ, zero, suc, ◌+◌, ◌<◌, Bool, true, false, cond, not, ◌&&◌, ◌||◌, ◌⊎◌, List, [], ◌∷◌, length, get_or, set, sym, refl, ap, ◌∙◌, subst, ap₂, inl, inr, arith, length-set, get_or-set_other, get_or-set_same}
-use Rattle.rules.proofs.MarkedTrees.{Mark, idle, waiting, underway, done, Leaf, nothing, stop, emit, wait, One, loop, kill, local, Two, sequence, parallel, when}
-use Rattle.rules.proofs.MarkedTrees.{Marked, mleaf, mone, mtwo, begin, rest, Signals, Legal, live, is_live, one_legal, two_legal}
-use Rattle.rules.proofs.ByNumber.{is_done, two_over, Has, Distinct}
+use Rattle.std.proofs.Common.{◌≡◌, ℕ, ◌<◌, Bool, true, false, List, length, set, refl, ◌∙◌, inl, inr, arith, length-set, get_or-set_other, get_or-set_same}
+use Rattle.rules.proofs.MarkedTrees.{Mark, idle, waiting, underway, done, One, Two, sequence, parallel, when}
+use Rattle.rules.proofs.MarkedTrees.{Marked, mleaf, mone, mtwo, begin, Signals, Legal, live, is_live}
+use Rattle.rules.proofs.ByNumber.{two_over, Distinct}
 use Rattle.rules.proofs.ByNumber.{over as over_t}
 use Rattle.rules.proofs.Diamonds.{rest_legal}
-use Rattle.rules.proofs.Shapes.{Tree, leaf, one, two, blank, at, marked, begun, idled, over}
-use Rattle.rules.proofs.Ended.{leaf_ended, close0, one_ended, two_ended, ended, close1, close2, close}
-use Rattle.rules.proofs.Frames.{Kept, In, kept_set, kept_id, kept_then, kept_own, begun_kept, idled_kept, unseen, unset, Fits, begun_same, idled_same, over_same}
+use Rattle.rules.proofs.Shapes.{Tree, leaf, one, two, blank, at, marked, begun, over}
+use Rattle.rules.proofs.Ended.{one_ended, two_ended, ended, close1, close2, close}
+use Rattle.rules.proofs.Frames.{Kept, In, begun_kept, idled_kept, unseen, unset, Fits, over_same}
 use Rattle.rules.proofs.Steps.{set_own, begun_own, idled_own}
 
 -- the parts' facts only at the lists that are met: with the general fact in reach `grind` takes it at ever more lists

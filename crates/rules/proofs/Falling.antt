@@ -1,10 +1,10 @@
-use Rattle.std.proofs.Common.{◌≡◌, ℕ, ◌+◌, ◌*◌, ◌<◌, ◌≤◌, Bool, true, false, cond, not, ◌&&◌, ◌||◌, ◌⊎◌, List, [], ◌∷◌, length, sym, refl, ap, ◌∙◌, subst, ap₂, inl, inr, arith}
+use Rattle.std.proofs.Common.{◌≡◌, ℕ, ◌+◌, ◌*◌, ◌<◌, ◌≤◌, Bool, true, false, cond, not, ◌⊎◌, List, length, sym, refl, ap, ◌∙◌, subst, ap₂, inl, inr, arith}
 use Rattle.rules.specs.Runs.{Run, still, then}
-use Rattle.rules.proofs.MarkedTrees.{Mark, idle, waiting, underway, done, Leaf, nothing, stop, emit, wait, One, loop, kill, local, Two, sequence, parallel, when}
-use Rattle.rules.proofs.MarkedTrees.{Marked, mleaf, mone, mtwo, Pos, here, left, right, begin, rest, Over, Signals, Present, Ready, ReadyLeaf, ReadyOne, ReadyTwo, Opened}
+use Rattle.rules.proofs.MarkedTrees.{Mark, idle, waiting, underway, done, One, Two, sequence, parallel, when}
+use Rattle.rules.proofs.MarkedTrees.{Marked, mleaf, mone, mtwo, Pos, here, left, right, begin, rest, Over, Signals, Ready, ReadyOne, ReadyTwo, Opened}
 use Rattle.rules.proofs.MarkedTrees.{after, after_one, after_two, Legal, live, is_live, one_legal, two_legal, State, Can, next, Fine}
-use Rattle.rules.proofs.Potential.{size, most, ends, may, steps_left, Turns, Loops, InstantEnds, ends_one, ends_two, most_one, most_two, left_two, may_two}
-use Rattle.rules.proofs.Diamonds.{idle_quiet, idle_not_over, over_quiet, rest_legal, rest_after, diamond}
+use Rattle.rules.proofs.Potential.{size, most, ends, may, steps_left, Turns, Loops, InstantEnds, ends_one, ends_two, most_one, most_two, may_two}
+use Rattle.rules.proofs.Diamonds.{idle_quiet, idle_not_over, rest_legal, rest_after, diamond}
 
 -- most and ends have nothing to do with marks
 most_rest : (t : Marked) → most (rest t) ≡ most t

@@ -1,10 +1,10 @@
 -- the claims over flat data
-use Rattle.std.proofs.Common.{◌≡◌, ℕ, zero, suc, ◌+◌, ◌*◌, ◌<◌, ◌≤◌, List, [], ◌∷◌, length, sym, refl, ap, ◌∙◌, subst, ap₂, arith}
+use Rattle.std.proofs.Common.{suc, List, length, arith}
 use Rattle.rules.proofs.MarkedTrees.{Mark, Legal}
 use Rattle.rules.proofs.Shapes.{Kind, tree_at, marked}
 use Rattle.rules.proofs.Tests.{Sort, Table, LegalMarks, OrderNeverShows}
-use Rattle.rules.proofs.FlatRuns.{same_end, stays_legal}
-use Rattle.rules.proofs.Table.{sound, legal_to, legal_from, legal_row, every, under_below}
+use Rattle.rules.proofs.FlatRuns.{same_end}
+use Rattle.rules.proofs.Table.{sound, legal_to, legal_from, legal_row, every}
 
 module _ (ks : List Kind) (sorts : List Sort) (T : Table ks sorts) where
   pub to_legal : (ms : List Mark) → LegalMarks ks ms → Legal (marked (tree_at ks 0) ms)

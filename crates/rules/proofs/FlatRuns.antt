@@ -1,16 +1,15 @@
 -- runs over lists are runs over trees
-use Rattle.std.proofs.Common.{◌≡◌, ℕ, zero, suc, ◌+◌, ◌*◌, ◌<◌, ◌≤◌, Bool, true, false, cond, not, ◌&&◌, ◌||◌, ◌⊎◌, List, [], ◌∷◌, length, get_or, set, sym, refl, ap, ◌∙◌, subst, ap₂, inl, inr, arith, length-set, ext_get_or}
-use mathlib.Core.Option.{Option, none, some}
+use Rattle.std.proofs.Common.{◌≡◌, ℕ, ◌*◌, ◌<◌, ◌≤◌, List, [], ◌∷◌, length, sym, refl, ap, ◌∙◌, subst, ap₂, arith, ext_get_or}
 use native.Mathlib.Decide.{ℕ_discrete}
 use Rattle.rules.specs.Runs.{Run, still, then, Quiet, count, Out, here, later, Perm, none_left, one_more}
-use Rattle.rules.proofs.MarkedTrees.{Mark, idle, Leaf, One, Two, Marked, mleaf, mone, mtwo, rest, State, next, Signals, Effect, apply, Legal, Scoped}
+use Rattle.rules.proofs.MarkedTrees.{Mark, idle, State, next, Signals, Legal, Scoped}
 use Rattle.rules.proofs.Potential.{size, Turns, steps_left}
 use Rattle.rules.proofs.Falling.{falls, instant_ends}
-use Rattle.rules.proofs.ByNumber.{Has, Distinct, Change, step, Steps, go, take, Proper}
+use Rattle.rules.proofs.ByNumber.{Distinct, step, Steps, go, Proper}
 use Rattle.rules.proofs.Positions.{order_by_number, ends_by_number, by_number, to_pos, fine}
-use Rattle.rules.proofs.Shapes.{Tree, leaf, one, two, blank, at, marked, ready, fired, effect, Flat, stepped, Readies}
+use Rattle.rules.proofs.Shapes.{Tree, leaf, one, two, blank, at, marked, fired, effect, Flat, stepped, Readies}
 use Rattle.rules.proofs.Flat.{Sound, SameEnd}
-use Rattle.rules.proofs.Frames.{In, Fits, marked_rest}
+use Rattle.rules.proofs.Frames.{In, marked_rest}
 use Rattle.rules.proofs.Steps.{result, step_same, fired_kept}
 
 -- a tree tells its marks

@@ -1,11 +1,10 @@
 -- what a writer leaves as it is
-use Rattle.std.proofs.Common.{◌≡◌, ℕ, zero, suc, ◌+◌, ◌<◌, Bool, true, false, cond, not, ◌&&◌, ◌||◌, ◌⊎◌, List, [], ◌∷◌, length, get_or, set, sym, refl, ap, ◌∙◌, subst, ap₂, inl, inr, arith, length-set, get_or-set_other, get_or-set_same}
-use native.Mathlib.Decide.{ℕ_discrete}
-use Rattle.rules.proofs.MarkedTrees.{Mark, idle, waiting, underway, done, Leaf, nothing, stop, emit, wait, One, loop, kill, local, Two, sequence, parallel, when}
-use Rattle.rules.proofs.MarkedTrees.{Marked, mleaf, mone, mtwo, begin, rest, Signals, Effect, quiet, raises, drops, apply, leaf_effect, one_effect, begun as first}
-use Rattle.rules.proofs.ByNumber.{is_done, two_over, pick, shut, Has, Distinct}
+use Rattle.std.proofs.Common.{◌≡◌, ℕ, ◌<◌, ◌⊎◌, List, length, set, sym, refl, ap, ◌∙◌, subst, inl, inr, arith, length-set, get_or-set_other, get_or-set_same}
+use Rattle.rules.proofs.MarkedTrees.{Mark, idle, waiting, underway}
+use Rattle.rules.proofs.MarkedTrees.{mleaf, begin, rest, begun as first}
+use Rattle.rules.proofs.ByNumber.{Has, Distinct}
 use Rattle.rules.proofs.ByNumber.{over as over_t}
-use Rattle.rules.proofs.Shapes.{Tree, leaf, one, two, blank, at, marked, begun, idled, over, ready, one_fired, two_fired, fired, effect}
+use Rattle.rules.proofs.Shapes.{Tree, leaf, one, two, blank, at, marked, begun, idled, over}
 
 -- ns has the marks of ms but at numbers of which P holds
 pub record Kept (P : ℕ → Type 0) (ms ns : List Mark) : Type 0 where

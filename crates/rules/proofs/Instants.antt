@@ -1,8 +1,7 @@
 -- a tree that is all idle
-use Rattle.std.proofs.Common.{◌≡◌, ℕ, zero, suc, ◌<◌, false, List, [], ◌∷◌, length, replicate, sym, refl, ap, ◌∙◌, subst, ap₂, arith}
-use lib.ListN.{length-replicate}
-use Rattle.rules.proofs.MarkedTrees.{Mark, idle, Marked, mleaf, mone, mtwo, rest, begin, Signals, Legal, live}
-use Rattle.rules.proofs.Shapes.{Kind, Tree, leaf, one, two, tree_at, blank, marked, at, begun}
+use Rattle.std.proofs.Common.{◌≡◌, ℕ, zero, suc, replicate, refl, ap}
+use Rattle.rules.proofs.MarkedTrees.{idle, mleaf}
+use Rattle.rules.proofs.Shapes.{Tree, leaf, one, two, blank, marked, at}
 
 pub all_idle : (n i : ℕ) → at (replicate n idle) i ≡ idle
 all_idle zero i = refl

@@ -1,18 +1,17 @@
 -- what lies inside a statement, by numbers: nothing is ready inside what is over or inside what is ready
-use Rattle.std.proofs.Common.{◌≡◌, ℕ, suc, ◌<◌, ◌≤◌, Bool, true, false, cond, not, ◌&&◌, ◌||◌, ◌⊎◌, List, length, sym, refl, ap, ◌∙◌, subst, inl, inr, arith}
-use mathlib.Core.Option.{Option, none, some}
+use Rattle.std.proofs.Common.{◌≡◌, ℕ, ◌<◌, Bool, true, false, not, ◌&&◌, ◌||◌, ◌⊎◌, List, length, sym, refl, ◌∙◌, subst, inl, inr, arith}
 use native.Mathlib.Decide.{ℕ_discrete}
 use Rattle.routine.specs.declared.kinds.Kind.{Kind}
 use Rattle.routine.specs.Tree.{Tree, leaf, one, two, node, tree_at, contains, inside}
 use Rattle.routine.specs.Kinds.{Shape, no_part, one_part, two_parts, shape_at}
 use Rattle.routine.proofs.Trees.{unroll, trees, under_trans, under_below, contains_in}
 use Rattle.rules.specs.Rules.{Mark, Signals, One, Two, at, over, ready, reached, rule, shut, one_rule, two_rule, pick}
-use Rattle.rules.proofs.MarkedTrees.{Marked, mleaf, mone, mtwo, Legal, Over, live, Pos, Ready, ReadyOne, ReadyTwo, Opened, one_legal, two_legal}
+use Rattle.rules.proofs.MarkedTrees.{Marked, Legal, Over, live, Pos, Ready, ReadyOne, ReadyTwo, Opened, one_legal, two_legal}
 use Rattle.rules.proofs.ByNumber.{Distinct}
 use Rattle.rules.proofs.Shapes.{blank, marked}
-use Rattle.rules.proofs.Tests.{Part, Rising, Once, Under}
+use Rattle.rules.proofs.Tests.{Part, Rising, Once}
 use Rattle.rules.proofs.Frames.{In, Fits, over_same}
-use Rattle.rules.proofs.Steps.{result, step_same}
+use Rattle.rules.proofs.Steps.{step_same}
 use Rattle.rules.proofs.Positions.{step_to, over_says, idle_over}
 use Rattle.rules.proofs.Diamonds.{over_quiet, one_alone, two_alone}
 use Rattle.rules.proofs.Table.{in_under, under_in, distinct, in_has}

@@ -1,5 +1,5 @@
 -- the language: statement trees that carry their marks
-use Rattle.std.proofs.Common.{◌≡◌, ℕ, ◌+◌, Bool, true, false, cond, not, ◌&&◌, ◌||◌, ◌⊎◌, List, [], ◌∷◌, get_or, set, refl, inl, inr}
+use Rattle.std.proofs.Common.{◌≡◌, ℕ, Bool, true, false, ◌⊎◌, get_or, refl}
 pub use Rattle.rules.specs.Rules.{Mark, idle, waiting, underway, done, Leaf, nothing, stop, emit, wait, One, loop, kill, local, Two, sequence, parallel, when}
 pub use Rattle.rules.specs.Rules.{Signals, Effect, quiet, raises, drops, leaf_effect, one_effect, apply, is_live, leaf_begun as begun}
 pub use Rattle.rules.specs.Legal.{leaf_legal, one_legal, two_legal}

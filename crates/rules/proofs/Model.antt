@@ -1,9 +1,6 @@
 -- what the model's run is
-use Rattle.std.proofs.Common.{◌≡◌, ℕ, ◌*◌, List, length}
-use Rattle.rules.specs.Runs.{Run, Quiet}
+use Rattle.std.proofs.Common.{List, length}
 use Rattle.rules.proofs.Shapes.{Kind, Flat, tree_at, ready}
-use Rattle.rules.proofs.Tests.{LegalMarks}
-use Rattle.rules.proofs.Claims.{Enabled, moved}
 pub use Rattle.routine.specs.Search.{lowest}
 pub use Rattle.rules.specs.Model.{turned}
 unfoldable pub use Rattle.rules.specs.Model.{settled as model}

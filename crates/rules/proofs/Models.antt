@@ -1,10 +1,9 @@
-use Rattle.std.proofs.Common.{◌≡◌, ℕ, zero, suc, ◌+◌, ◌*◌, ◌<◌, ◌≤◌, Bool, true, false, cond, ◌⊎◌, List, [], ◌∷◌, length, Some, None, Option, sym, refl, ap, ◌∙◌, subst, ap₂, inl, inr, arith}
-use mathlib.Core.Bool.{Bool-discrete}
-use native.Mathlib.Decide.{ℕ_discrete, dec_lt}
+use Rattle.std.proofs.Common.{◌≡◌, ℕ, zero, suc, ◌<◌, ◌≤◌, Bool, true, false, ◌⊎◌, List, [], length, Some, None, Option, sym, refl, ap, ◌∙◌, subst, inl, inr, arith}
+use native.Mathlib.Decide.{dec_lt}
 use Rattle.rules.specs.Runs.{Run, still, then, Quiet}
-use Rattle.rules.proofs.MarkedTrees.{Mark, Legal}
+use Rattle.rules.proofs.MarkedTrees.{Legal}
 use Rattle.rules.proofs.Potential.{steps_left}
-use Rattle.rules.proofs.Shapes.{Kind, tree_at, marked, ready, Flat, stepped, Readies}
+use Rattle.rules.proofs.Shapes.{Kind, tree_at, marked, ready, Flat}
 use Rattle.rules.proofs.Tests.{Sort, Table, LegalMarks}
 use Rattle.rules.proofs.Claims.{Enabled, moved}
 use Rattle.rules.proofs.Model.{lowest, turned, turn, model}
@@ -14,7 +13,7 @@ use Rattle.rules.proofs.Steps.{unready}
 use Rattle.rules.proofs.FlatRuns.{keeps, falls_here, left_most, stays_legal}
 use Rattle.rules.proofs.Table.{sound}
 use Rattle.rules.proofs.Final.{to_legal}
-use Rattle.rules.proofs.Claimed.{moves, orderless}
+use Rattle.rules.proofs.Claimed.{moves}
 
 false_true : {b : Bool} → b ≡ false → b ≡ true → ⊥
 false_true p q = let z : ◌≡◌ {A = ℕ} 0 1 = cc in omega arith

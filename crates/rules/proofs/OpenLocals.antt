@@ -1,11 +1,11 @@
 -- open locals: none lies inside a shut one, and none outlasts the instant
-use Rattle.std.proofs.Common.{◌≡◌, ℕ, ◌<◌, Bool, true, false, cond, not, ◌&&◌, ◌||◌, ◌⊎◌, List, length, get_or, sym, refl, ap, ◌∙◌, subst, inl, inr, arith}
+use Rattle.std.proofs.Common.{◌≡◌, ℕ, ◌<◌, Bool, true, false, not, ◌&&◌, ◌||◌, List, length, sym, refl, ap, ◌∙◌, subst, inl, inr, arith}
 use native.Mathlib.Decide.{ℕ_discrete}
 use Rattle.routine.specs.declared.kinds.Kind.{Kind}
-use Rattle.routine.specs.Tree.{Tree, leaf, one, two, node, tree_at}
+use Rattle.routine.specs.Tree.{one, node, tree_at}
 use Rattle.routine.specs.Kinds.{Shape, no_part, one_part, two_parts, shape_at}
 use Rattle.routine.proofs.Trees.{unroll, trees}
-use Rattle.rules.specs.Rules.{Mark, idle, waiting, underway, done, Signals, Leaf, One, loop, kill, local, Two, sequence, parallel, when, at, reached, shut, pick, two_over}
+use Rattle.rules.specs.Rules.{Mark, Signals, One, loop, kill, local, Two, sequence, parallel, when, at, reached, shut, pick, two_over}
 use Rattle.rules.specs.Legal.{is_local, is_underway}
 use Rattle.rules.proofs.MarkedTrees.{Marked, mleaf, mone, mtwo, Legal, Over, live, Pos, here, left, right, begin, rest, after, after_one, after_two, Ready, ReadyOne, ReadyTwo, Opened, one_legal, two_legal}
 use Rattle.rules.proofs.ByNumber.{Distinct, over as over_t}

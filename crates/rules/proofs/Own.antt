@@ -1,14 +1,13 @@
 -- from the root's words to those of the statement's own shape
-use Rattle.std.proofs.Common.{◌≡◌, ℕ, zero, suc, ◌+◌, ◌<◌, Bool, true, false, cond, not, ◌&&◌, ◌||◌, ◌⊎◌, List, [], ◌∷◌, length, get_or, set, sym, refl, ap, ◌∙◌, subst, ap₂, inl, inr, arith}
-use native.Mathlib.Decide.{ℕ_discrete}
-use Rattle.rules.proofs.MarkedTrees.{Mark, idle, One, Two, Marked, Signals, Effect, quiet, raises, drops, leaf_effect, one_effect}
-use Rattle.rules.proofs.ByNumber.{pick, shut, Has, Distinct}
-use Rattle.rules.proofs.Shapes.{Kind, Shape, no_part, one_part, two_parts, shape_at, node, tree_at, Tree, leaf, one, two, blank, at, over, ready, fired, effect, either, one_fired, two_fired, leaf_rule, one_rule, two_rule}
-use Rattle.rules.proofs.Tests.{Part, Rising, Once, Under, self, part}
+use Rattle.std.proofs.Common.{◌≡◌, ℕ, ◌<◌, false, ◌&&◌, List, length, sym, refl, subst, inl, inr, arith}
+use Rattle.rules.proofs.MarkedTrees.{Mark, One, Two, Signals}
+use Rattle.rules.proofs.ByNumber.{Distinct}
+use Rattle.rules.proofs.Shapes.{Kind, Shape, no_part, one_part, two_parts, shape_at, node, tree_at, Tree, leaf, one, two, blank, ready, fired, effect}
+use Rattle.rules.proofs.Tests.{Part, Rising, Once}
 use Rattle.rules.proofs.Parts.{rule, fire, effect_of, reached}
 use Rattle.rules.proofs.Frames.{In}
 use Rattle.rules.proofs.Steps.{missed, unready, uneffective}
-use Rattle.rules.proofs.Table.{unroll, trees, under_below, in_under, under_in, distinct}
+use Rattle.rules.proofs.Table.{unroll, trees, distinct}
 
 pub unreached : (t : Tree) (ms : List Mark) (i : ℕ) → ¬ (In t i) → reached t ms i ≡ false
 unreached (leaf n k) ms i d = grind arith

@@ -1,17 +1,15 @@
 -- from the words of the rules to positions and families, and back
-use Rattle.std.proofs.Common.{◌≡◌, ℕ, zero, suc, ◌+◌, ◌*◌, ◌≤◌, Bool, true, false, cond, not, ◌&&◌, ◌||◌, ◌⊎◌, List, [], ◌∷◌, length, get_or, set, sym, refl, ap, ◌∙◌, subst, ap₂, inl, inr, true≢false, arith}
-use mathlib.Core.Bool.{false≢true}
+use Rattle.std.proofs.Common.{◌≡◌, ℕ, suc, Bool, true, false, cond, ◌||◌, List, [], ◌∷◌, length, sym, refl, ap, ◌∙◌, subst, arith}
 use mathlib.Core.Option.{Option, none, some}
 use native.Mathlib.Decide.{ℕ_discrete}
-use Rattle.rules.specs.Runs.{Run, still, then, Quiet, Out, Perm, Diamond}
-use Rattle.rules.proofs.MarkedTrees.{Mark, idle, waiting, underway, done, Leaf, nothing, stop, emit, wait, One, loop, kill, local, Two, sequence, parallel, when}
-use Rattle.rules.proofs.MarkedTrees.{Marked, mleaf, mone, mtwo, Pos, here, left, right, begin, rest, Over, Signals, Present, Ready, ReadyLeaf, ReadyOne, ReadyTwo, Opened}
-use Rattle.rules.proofs.MarkedTrees.{after, after_one, after_two, eff, leaf_effect, one_effect, apply, Effect, quiet, raises, drops, live, one_legal, two_legal, Legal}
+use Rattle.rules.specs.Runs.{Run, still, then, Diamond}
+use Rattle.rules.proofs.MarkedTrees.{Mark, done, Leaf, One, Two}
+use Rattle.rules.proofs.MarkedTrees.{Marked, mleaf, mone, mtwo, Pos, here, left, right, rest, Over, Signals, Ready, ReadyLeaf, ReadyOne, ReadyTwo, Opened}
+use Rattle.rules.proofs.MarkedTrees.{after, after_one, after_two, eff, leaf_effect, one_effect, apply, Effect, quiet, live, one_legal, two_legal, Legal}
 use Rattle.rules.proofs.MarkedTrees.{State, Can, next, Fine, Scoped}
 use Rattle.rules.proofs.MarkedTrees.{number, number_rest}
 use Rattle.rules.proofs.ByNumber.{over, two_over, is_done, pick, Change, inside, or_else, step_leaf, step_one, step_two, shut, step}
-use Rattle.rules.proofs.Potential.{size, Turns, steps_left}
-use Rattle.rules.proofs.ByNumber.{EndsByNumber, Has, Distinct, Steps, go, take, Proper, OrderByNumber}
+use Rattle.rules.proofs.ByNumber.{EndsByNumber, Has, Distinct, Steps, go, Proper, OrderByNumber}
 use Rattle.rules.proofs.Diamonds.{idle_not_over, after_legal}
 use Rattle.rules.proofs.Diamonds.{rest_after, diamond}
 use Rattle.rules.proofs.Pulled.{pull, unique}

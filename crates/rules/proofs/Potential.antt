@@ -1,5 +1,5 @@
 -- how many steps an instant can still take
-use Rattle.std.proofs.Common.{◌≡◌, ℕ, ◌+◌, ◌*◌, ◌≤◌, Bool, true, false, cond, ◌&&◌, ◌||◌, List, [], ◌∷◌, length, refl}
+use Rattle.std.proofs.Common.{◌≡◌, ℕ, ◌+◌, ◌*◌, ◌≤◌, Bool, true, false, cond, ◌&&◌, ◌||◌, List, length}
 use Rattle.rules.specs.Runs.{Run}
 use Rattle.rules.proofs.MarkedTrees.{Mark, idle, waiting, underway, done, Leaf, nothing, stop, emit, wait, One, loop, kill, local, Two, sequence, parallel, when}
 use Rattle.rules.proofs.MarkedTrees.{Marked, mleaf, mone, mtwo, Pos, rest, State, Can, next, Fine}

@@ -1,20 +1,18 @@
 -- the theorems of the rules, from the proofs on trees with marks
-use Rattle.std.proofs.Common.{◌≡◌, ℕ, suc, ◌+◌, ◌*◌, ◌<◌, ◌≤◌, Bool, true, false, not, ◌&&◌, ◌||◌, ◌⊎◌, List, [], ◌∷◌, length, sym, refl, ap, ◌∙◌, subst, ap₂, inl, inr, arith}
-use native.Mathlib.Decide.{ℕ_discrete}
+use Rattle.std.proofs.Common.{◌≡◌, ℕ, ◌<◌, Bool, true, false, ◌&&◌, List, length, sym, refl, ap, ◌∙◌, subst, inl, inr, arith}
 use Rattle.routine.specs.declared.kinds.Kind.{Kind}
 use Rattle.routine.specs.declared.kinds.SignalKind.{SignalKind}
 use Rattle.routine.specs.Kinds.{shape_at}
-use Rattle.routine.specs.Tree.{tree_at, contains, inside}
+use Rattle.routine.specs.Tree.{tree_at}
 use Rattle.routine.proofs.Trees.{contains_in}
-use Rattle.rules.specs.Runs.{Run, Quiet, count, Diamond}
-use Rattle.rules.specs.Rules.{Mark, Signals, over, ready}
-use Rattle.rules.specs.Legal.{Legal, row_legal, open_legal, keeps}
+use Rattle.rules.specs.Rules.{Mark, Signals, ready}
+use Rattle.rules.specs.Legal.{Legal, row_legal, open_legal}
 use Rattle.rules.specs.Model.{Config, Ready, stepped, settled, path, enough}
 use Rattle.rules.specs.Theorems.{Checked, NothingReadyInside, EitherOrder, OrderNeverShows, InstantEnds}
-use Rattle.rules.proofs.ByNumber.{Proper, Steps, go}
+use Rattle.rules.proofs.ByNumber.{Steps, go}
 use Rattle.rules.proofs.MarkedTrees.{State, Legal as Lawful}
 use Rattle.rules.proofs.Positions.{by_number}
-use Rattle.rules.proofs.Shapes.{Readies, marked, stepped as from_root}
+use Rattle.rules.proofs.Shapes.{marked, stepped as from_root}
 use Rattle.rules.proofs.Tests.{Table, LegalMarks}
 use Rattle.rules.proofs.FlatRuns.{sim, to_tree, from_tree, proper, sim_inj, keeps as keeps_length}
 use Rattle.rules.proofs.Table.{sound, legal_to, in_has}

@@ -1,4 +1,4 @@
-use Rattle.std.proofs.Common.{◌≡◌, ℕ, ◌+◌, List, [], ◌∷◌, map, sym, refl, ap, ◌∙◌, subst, arith}
+use Rattle.std.proofs.Common.{◌≡◌, List, ◌∷◌, map, sym, refl, subst, arith}
 use Rattle.rules.specs.Runs.{Run, still, then, Quiet, Out, here, later, Perm, none_left, one_more, Diamond, count}
 
 -- the labels may be counted by what they stand for

@@ -1,9 +1,9 @@
 -- the language over a static shape and a list of marks
-use Rattle.std.proofs.Common.{◌≡◌, ℕ, zero, suc, ◌+◌, ◌<◌, Bool, true, false, cond, not, ◌&&◌, ◌||◌, List, [], ◌∷◌, length, get_or, set, refl}
+use Rattle.std.proofs.Common.{◌≡◌, ℕ, true, List, set}
 use native.Mathlib.Decide.{ℕ_discrete}
-use Rattle.rules.proofs.MarkedTrees.{Mark, idle, waiting, underway, done, Leaf, nothing, stop, emit, wait, One, loop, kill, local, Two, sequence, parallel, when}
-use Rattle.rules.proofs.MarkedTrees.{Marked, mleaf, mone, mtwo, rest, Signals, Effect, quiet, raises, drops, apply, leaf_effect, one_effect, begun as first, is_live, leaf_legal, one_legal, two_legal}
-use Rattle.rules.proofs.ByNumber.{is_done, two_over, pick, shut}
+use Rattle.rules.proofs.MarkedTrees.{Mark, idle, done}
+use Rattle.rules.proofs.MarkedTrees.{Marked, mleaf, mone, mtwo, Signals, Effect, quiet, raises, drops, apply, leaf_effect, one_effect}
+use Rattle.rules.proofs.ByNumber.{pick}
 pub use Rattle.routine.specs.declared.kinds.Kind.{Kind}
 pub use Rattle.routine.specs.declared.kinds.Kind.TheVariants.{Nothing}
 pub use Rattle.routine.specs.Kinds.{Shape, no_part, one_part, two_parts, shape, shape_at}

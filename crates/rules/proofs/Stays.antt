@@ -1,21 +1,21 @@
 -- legal marks stay legal, from the start on
-use Rattle.std.proofs.Common.{◌≡◌, ℕ, suc, ◌<◌, Bool, true, false, not, ◌&&◌, ◌||◌, eqb, List, [], ◌∷◌, length, replicate, sym, refl, ap, ◌∙◌, subst, arith}
+use Rattle.std.proofs.Common.{◌≡◌, ℕ, ◌<◌, Bool, true, false, not, ◌&&◌, ◌||◌, eqb, List, length, replicate, sym, ap, ◌∙◌, subst, arith}
 use lib.ListN.{length-replicate}
 use Rattle.routine.specs.declared.kinds.Kind.{Kind}
 use Rattle.routine.specs.declared.kinds.SignalKind.{SignalKind}
 use Rattle.routine.specs.Kinds.{shape_at}
 use Rattle.routine.specs.Tree.{tree_at}
-use Rattle.rules.specs.Rules.{Mark, idle, Signals, at, is_live, begun, ended, reached}
-use Rattle.rules.specs.Legal.{Legal, row_legal, open_legal, keeps}
-use Rattle.rules.specs.Model.{Config, Ready, stepped, first_marks}
+use Rattle.rules.specs.Rules.{Mark, idle, at, is_live, begun, ended, reached}
+use Rattle.rules.specs.Legal.{Legal, row_legal}
+use Rattle.rules.specs.Model.{Config, Ready, first_marks}
 use Rattle.rules.specs.Theorems.{Checked, MarksStayLegal}
-use Rattle.rules.proofs.MarkedTrees.{State, live, next, begin, after, rest, Legal as Lawful}
+use Rattle.rules.proofs.MarkedTrees.{State, live, begin, after, Legal as Lawful}
 use Rattle.rules.proofs.Positions.{to_pos}
 use Rattle.rules.proofs.Diamonds.{after_legal, rest_legal}
 use Rattle.rules.proofs.Shapes.{blank, marked, stepped as from_root}
-use Rattle.rules.proofs.Tests.{Table, LegalMarks}
+use Rattle.rules.proofs.Tests.{Table}
 use Rattle.rules.proofs.Frames.{In, begun_kept, begun_same, marked_rest}
-use Rattle.rules.proofs.FlatRuns.{sim, to_tree, proper, keeps as keeps_length}
+use Rattle.rules.proofs.FlatRuns.{to_tree, proper, keeps as keeps_length}
 use Rattle.rules.proofs.Table.{sound, root_live}
 use Rattle.rules.proofs.Final.{to_legal, from_legal}
 use Rattle.rules.proofs.Claimed.{moves}

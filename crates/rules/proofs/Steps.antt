@@ -1,13 +1,12 @@
 -- a step told by its number, over marks in a list and over a tree with its marks
-use Rattle.std.proofs.Common.{◌≡◌, ℕ, zero, suc, ◌+◌, ◌<◌, Bool, true, false, cond, not, ◌&&◌, ◌||◌, ◌⊎◌, List, [], ◌∷◌, length, get_or, set, sym, refl, ap, ◌∙◌, subst, ap₂, inl, inr, arith, length-set, get_or-set_other, get_or-set_same}
-use mathlib.Core.Option.{Option, none, some}
+use Rattle.std.proofs.Common.{◌≡◌, ℕ, ◌<◌, Bool, false, cond, not, ◌&&◌, ◌⊎◌, List, length, set, refl, ap, ◌∙◌, inl, inr, arith, length-set, get_or-set_other, get_or-set_same}
+use mathlib.Core.Option.{none, some}
 use native.Mathlib.Decide.{ℕ_discrete}
-use Rattle.rules.proofs.MarkedTrees.{Mark, idle, waiting, underway, done, Leaf, nothing, stop, emit, wait, One, loop, kill, local, Two, sequence, parallel, when}
-use Rattle.rules.proofs.MarkedTrees.{Marked, mleaf, mone, mtwo, begin, rest, Signals, Effect, quiet, raises, drops, apply, leaf_effect, one_effect, begun as first}
-use Rattle.rules.proofs.ByNumber.{is_done, two_over, pick, shut, Has, Distinct, Change, inside, or_else, step, step_leaf, step_one, step_two}
-use Rattle.rules.proofs.ByNumber.{over as over_t}
-use Rattle.rules.proofs.Shapes.{Tree, leaf, one, two, blank, at, marked, begun, idled, over, ready, leaf_rule, one_rule, two_rule, one_fired, two_fired, fired, effect, either}
-use Rattle.rules.proofs.Frames.{Kept, In, kept_set, kept_id, kept_then, begun_kept, idled_kept, unseen, unset, Fits, begun_same, idled_same, over_same}
+use Rattle.rules.proofs.MarkedTrees.{Mark, idle, waiting, underway, done, One, Two}
+use Rattle.rules.proofs.MarkedTrees.{Marked, mone, begin, rest, Signals, Effect, quiet, one_effect}
+use Rattle.rules.proofs.ByNumber.{shut, Distinct, Change, inside, step, step_one, step_two}
+use Rattle.rules.proofs.Shapes.{Tree, leaf, one, two, blank, at, marked, begun, idled, over, ready, one_rule, two_rule, one_fired, two_fired, fired, effect}
+use Rattle.rules.proofs.Frames.{Kept, In, begun_kept, idled_kept, unseen, unset, Fits, begun_same, idled_same, over_same}
 
 fire1_kept : (n : ℕ) (m : Mark) (k : One) (p : Tree) (ms : List Mark) → Kept (In (one n k p)) ms (one_fired n m k p ms)
 fire1_kept n m k p ms =

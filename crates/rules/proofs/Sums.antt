@@ -1,13 +1,12 @@
 -- the steps of a run, counted statement by statement; so what a run comes to is what the model says
-use Rattle.std.proofs.Common.{◌≡◌, ℕ, zero, suc, ◌+◌, ◌<◌, ◌≤◌, Bool, true, false, ◌⊎◌, List, [], ◌∷◌, ◌++◌, length, sym, refl, ap, ◌∙◌, subst, inl, inr, arith}
+use Rattle.std.proofs.Common.{◌≡◌, ℕ, zero, suc, ◌+◌, ◌<◌, ◌≤◌, List, [], ◌∷◌, ◌++◌, length, sym, refl, ap, ◌∙◌, subst, arith}
 use native.Mathlib.Decide.{ℕ_discrete}
 use Rattle.signals.specs.Sets.{word_set}
 use Rattle.routine.specs.declared.kinds.Kind.{Kind}
 use Rattle.routine.specs.declared.kinds.SignalKind.{SignalKind}
-use Rattle.rules.specs.Runs.{Run, Quiet, still, then, count}
+use Rattle.rules.specs.Runs.{Run, still, then, count}
 use Rattle.routine.specs.Tree.{tree_at}
-use Rattle.rules.specs.Rules.{Mark, over, ended}
-use Rattle.rules.specs.Legal.{Legal}
+use Rattle.rules.specs.Rules.{over, ended}
 use Rattle.rules.specs.Model.{Config, Ready, stepped, path, enough, each_below, total, outputs_of, status_of}
 use Rattle.rules.specs.Theorems.{Checked, StepsAddUp, SameOutcome}
 use Rattle.rules.proofs.Promises.{instant_ends, order_never_shows, ready_below}

@@ -1,12 +1,12 @@
 -- from the table's tests to the tree
-use Rattle.std.proofs.Common.{◌≡◌, ℕ, zero, suc, ◌+◌, ◌-◌, ◌*◌, ◌<◌, ◌≤◌, Bool, true, false, cond, not, ◌&&◌, ◌||◌, ◌⊎◌, List, [], ◌∷◌, length, get_or, set, sym, refl, ap, ◌∙◌, subst, ap₂, inl, inr, arith}
-use Rattle.rules.proofs.MarkedTrees.{Mark, idle, is_live, Leaf, One, Two, Marked, mleaf, mone, mtwo, live, Legal, Scoped, one_legal, two_legal}
-use Rattle.rules.proofs.MarkedTrees.{Binds as BindsT, Names as NamesT, NamesLeaf, NamesOne, NamesTwo, BindsOne}
-use Rattle.rules.proofs.Potential.{Turns, ends, Loops, size}
-use Rattle.rules.proofs.ByNumber.{Has, Distinct, pick}
-use Rattle.rules.proofs.Shapes.{Kind, Nothing, Shape, no_part, one_part, two_parts, shape_at, Tree, leaf, one, two, node, tree_at, blank, at, marked}
+use Rattle.std.proofs.Common.{◌≡◌, ℕ, suc, ◌<◌, ◌≤◌, true, ◌⊎◌, List, length, sym, refl, subst, inl, inr, arith}
+use Rattle.rules.proofs.MarkedTrees.{Mark, is_live, One, Two, live, Legal, Scoped}
+use Rattle.rules.proofs.MarkedTrees.{Binds as BindsT, Names as NamesT, NamesOne}
+use Rattle.rules.proofs.Potential.{Turns, size}
+use Rattle.rules.proofs.ByNumber.{Distinct}
+use Rattle.rules.proofs.Shapes.{Kind, Shape, no_part, one_part, two_parts, shape_at, Tree, leaf, one, two, node, tree_at, blank, at, marked}
 use Rattle.rules.proofs.Flat.{Sound}
-use Rattle.rules.proofs.Tests.{Part, Rising, Once, Under, self, part, Sort, input, inner, Binds, Uses, UsesOne, Scopes, Turning, Table, row_legal, LegalMarks}
+use Rattle.rules.proofs.Tests.{Part, Rising, Once, Under, self, part, Sort, Binds, Uses, Scopes, Turning, Table, row_legal, LegalMarks}
 use Rattle.rules.proofs.Frames.{In}
 pub use Rattle.routine.proofs.Trees.{unroll, trees, under_below, under_first, under_trans}
 use Rattle.routine.proofs.Trees.{In as InT, in_under as in_under_t, under_in as under_in_t}

@@ -1,12 +1,11 @@
 -- the tests of a table, and legal marks by statement
-use Rattle.std.proofs.Common.{◌≡◌, ℕ, zero, suc, ◌+◌, ◌*◌, ◌<◌, ◌≤◌, Bool, true, false, ◌⊎◌, List, [], ◌∷◌, length, get_or, set, refl, inl, inr}
+use Rattle.std.proofs.Common.{◌≡◌, ℕ, ◌*◌, ◌<◌, ◌≤◌, true, List, length, get_or}
 use native.Mathlib.Decide.{ℕ_discrete}
 use Rattle.rules.specs.Runs.{Run, Quiet, count}
-use Rattle.rules.proofs.MarkedTrees.{Mark, is_live, leaf_legal, one_legal, two_legal, Leaf, nothing, stop, emit, wait, One, loop, kill, local, Two, sequence, parallel, when}
-use Rattle.rules.proofs.MarkedTrees.{BindsOne, NamesLeaf, NamesOne, NamesTwo}
+use Rattle.rules.proofs.MarkedTrees.{Mark, One, loop, kill, local}
+use Rattle.rules.proofs.MarkedTrees.{BindsOne, NamesLeaf, NamesTwo}
 use Rattle.rules.proofs.Potential.{ends, Loops}
-use Rattle.rules.proofs.ByNumber.{pick}
-use Rattle.rules.proofs.Shapes.{Kind, Shape, no_part, one_part, two_parts, shape_at, tree_at, blank, at, Flat, stepped, Readies}
+use Rattle.rules.proofs.Shapes.{Kind, Shape, no_part, one_part, two_parts, shape_at, tree_at, blank, Flat, stepped, Readies}
 pub use Rattle.routine.proofs.Trees.{Part, Rising, Under, self, part}
 pub use Rattle.routine.proofs.Once.{Once}
 pub use Rattle.routine.specs.declared.kinds.SignalKind.{SignalKind as Sort}

@@ -1,5 +1,5 @@
 -- the rules of the language, over a routine's tree, a mark for each statement and the set of present signals
-use Rattle.std.specs.Prelude.{ℕ, Bool, true, false, cond, not, ◌&&◌, ◌||◌, List, [], ◌∷◌, set, slice_index_or, slice_set}
+use Rattle.std.specs.Prelude.{ℕ, Bool, true, false, cond, not, ◌&&◌, ◌||◌, List, slice_index_or, slice_set}
 use Rattle.std.proofs.Math.Decide.{ℕ_discrete}
 pub use Rattle.routine.specs.declared.kinds.Mark.{Mark}
 pub use Rattle.routine.specs.declared.kinds.Mark.TheVariants.{Idle as idle, Waiting as waiting, UnderWay as underway, Done as done}

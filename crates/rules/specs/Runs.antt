@@ -1,5 +1,5 @@
 -- runs of any labelled transition system (which labels are ready, and the state after one), and what a diamond gives
-use Rattle.std.specs.Prelude.{◌≡◌, ℕ, ◌+◌, List, [], ◌∷◌, map, refl}
+use Rattle.std.specs.Prelude.{◌≡◌, ℕ, ◌+◌, List, [], ◌∷◌}
 
 pub data Run {S L : Type 0} (Ready : S → L → Type 0) (next : S → L → S) : S → List L → S → Type 0 where
   still : {s : S} → Run Ready next s [] s

@@ -1,5 +1,5 @@
 -- what is shown of the rules
-use Rattle.std.specs.Prelude.{◌≡◌, ℕ, ◌+◌, ◌*◌, ◌<◌, ◌≤◌, Bool, true, false, List, [], length, replicate}
+use Rattle.std.specs.Prelude.{◌≡◌, ℕ, ◌*◌, ◌<◌, ◌≤◌, true, false, List, length}
 use Rattle.std.proofs.Math.Decide.{ℕ_discrete}
 use Rattle.signals.specs.Sets.{word_set}
 use Rattle.routine.specs.declared.kinds.Kind.{Kind}
@@ -10,7 +10,7 @@ use Rattle.routine.specs.Meaning.{passes}
 use Rattle.rules.specs.Runs.{Run, Quiet, count}
 use Rattle.rules.specs.Rules.{Mark, idle, Signals, at, begun, over, ready, fire, ended}
 use Rattle.rules.specs.Legal.{Legal}
-use Rattle.rules.specs.Model.{Config, Ready, stepped, settled, path, enough, first_marks, total, Outcome, closed, instant}
+use Rattle.rules.specs.Model.{Config, Ready, stepped, settled, path, enough, first_marks, total, closed, instant}
 
 -- the signals and statements of a routine: what reading and checking leave
 pub record Checked (gs : List SignalKind) (ks : List Kind) : Type 0 where

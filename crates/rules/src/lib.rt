@@ -1,3 +1,5 @@
+#![tactic(auto)]
+
 pub mod status;
 pub mod theorems;
 pub mod worked;

@@ -1,4 +1,4 @@
-use Rattle.std.proofs.Common.{[], Ok, vec_items, sym, ap, ◌∙◌, rules}
+use Rattle.std.proofs.Common.{Ok, vec_items, sym, ap, ◌∙◌}
 use Rattle.std.proofs.lemmas.List.{at_drop_all, append-nil}
 use Rattle.routine.specs.Layout.{signals_from}
 use Rattle.routine.proofs.Entries.{after, signals_more, signals_less}

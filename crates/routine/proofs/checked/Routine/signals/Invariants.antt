@@ -1,4 +1,4 @@
-use Rattle.std.proofs.Common.{◌≡◌, ◌+◌, ◌≤◌, drop, vec_items}
+use Rattle.std.proofs.Common.{◌≡◌, ◌+◌, ◌≤◌, drop}
 use Rattle.routine.specs.Meaning.{how_many}
 use Rattle.routine.specs.View.{signals_of}
 use Rattle.routine.proofs.checked.Routine.signals.Given as goal

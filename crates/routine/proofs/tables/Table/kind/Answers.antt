@@ -1,4 +1,4 @@
-use Rattle.std.proofs.Common.{◌≡◌, ◌<◌, length, vec_items, vec_len, arith}
+use Rattle.std.proofs.Common.{◌<◌, length, vec_items, vec_len, arith}
 use Rattle.routine.specs.Kinds.{kinds}
 use Rattle.routine.proofs.Lists.{kind_read, kinds_length}
 use Rattle.routine.proofs.Levels.{level}

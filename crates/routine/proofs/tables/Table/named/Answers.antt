@@ -1,4 +1,4 @@
-use Rattle.std.proofs.Common.{◌≡◌, ℕ, sym, ap, ◌∙◌, add-one, arith, rules}
+use Rattle.std.proofs.Common.{ℕ, ap, ◌∙◌, add-one, arith}
 use Rattle.routine.specs.Kinds.{shape}
 use Rattle.routine.specs.Meaning.{names, named}
 use Rattle.routine.specs.View.{kinds_of}

@@ -1,6 +1,5 @@
 use Rattle.std.proofs.Common.{sym, arith, ltb-false}
 use lib.ListN.{get_or-eq_default}
-use Rattle.routine.specs.View.{signals_of}
 use Rattle.routine.proofs.tables.Table.signal.Goals as goal
 
 pub returns-in-None : goal.returns-in-None
