@@ -4,6 +4,7 @@ use Rattle.routine.specs.declared.kinds.Kind.{Kind}
 use Rattle.routine.specs.declared.kinds.SignalKind.{SignalKind}
 use Rattle.routine.specs.declared.refusals.Refusal.{Refusal}
 use Rattle.rules.specs.Legal.{Legal}
+use Rattle.signals.specs.declared.board.Board.{Ghosts}
 use Rattle.count.specs.declared.answers.Phase.{Phase}
 use Rattle.count.specs.declared.answers.Phase.TheVariants.{Resting, Open, Over}
 use Rattle.count.specs.declared.answers.Closing.{Closing}
@@ -25,7 +26,7 @@ begun_resting Resting gs n w h = refl
 begun_resting Open gs n w h = absurd (let z : ◌≡◌ {A = ℕ} 0 1 = cc in omega arith)
 begun_resting Over gs n w h = refl
 
-module _ {B : Type 0} (present : B → List Bool) (a b c d : Count B) (word : ℕ) (r : Result Closing Refusal)
+module _ {B : Type 0} {G : Ghosts B} (present : B → List Bool) (a b c d : Count B G) (word : ℕ) (r : Result Closing Refusal)
     (u : Unit {0}) (began : Does {X = Unit {0}} present a b (Ok u) (begin_refusal (signals_of a) (state_of present a) word) tt (begin_state (state_of present a) word))
     (settled : state_of present c ≡ run_of (kinds_of b) (4 * length (kinds_of b)) (state_of present b))
     (kinds : kinds_of c ≡ kinds_of b) (signals : signals_of c ≡ signals_of b)

@@ -25,7 +25,7 @@ impl<B: Board> Count<B> {
     pub fn new(routine: Routine, mut board: B) -> Count<B>
         ensures kinds { kinds_of result ≡ kinds_read routine.table }
         ensures signals { signals_of result ≡ signals_read routine.table }
-        ensures state { state_of present result ≡ new_state (kinds_read routine.table) }
+        ensures state { state_of B.present result ≡ new_state (kinds_read routine.table) }
     {
         board.wipe();
         let mut rows = Rows { routine };
@@ -71,7 +71,7 @@ impl<B: Board> Count<B> {
 
     fn begin_refusal(&self, word: u64) -> Option<Refusal>
         ensures room { elim result [ None ↦ (self.now.closed < 4294967295) × (is_open self.now.phase ≡ false) | Some _ ↦ Unit {0} ] }
-        ensures why { result ≡ begin_refusal (signals_of self.now) (state_of present self.now) word }
+        ensures why { result ≡ begin_refusal (signals_of self.now) (state_of B.present self.now) word }
     {
         match self.phase {
             Phase::Open => Some(Refusal::AlreadyOpen),
@@ -90,7 +90,7 @@ impl<B: Board> Count<B> {
 
     // Opens an instant with the input signals of the word.
     pub fn begin(&mut self, word: u64) -> Result<(), Refusal>
-        ensures { Begins present self.old self.new word result }
+        ensures { Begins B.present self.old self.new word result }
     {
         match self.begin_refusal(word) {
             Some(refusal) => Err(refusal),
@@ -104,8 +104,8 @@ impl<B: Board> Count<B> {
     }
 
     fn step_refusal(&self, k: usize) -> Option<Refusal>
-        ensures can { elim result [ None ↦ (k < count_in self.now.rows) × (is_open self.now.phase ≡ true) × (ready (tree_in self.now.rows 0) (marks_in self.now.rows) (present self.now.board) k ≡ true) | Some _ ↦ Unit {0} ] }
-        ensures why { result ≡ step_refusal (kinds_of self.now) (state_of present self.now) k }
+        ensures can { elim result [ None ↦ (k < count_in self.now.rows) × (is_open self.now.phase ≡ true) × (ready (tree_in self.now.rows 0) (marks_in self.now.rows) (B.present self.now.board) k ≡ true) | Some _ ↦ Unit {0} ] }
+        ensures why { result ≡ step_refusal (kinds_of self.now) (state_of B.present self.now) k }
     {
         match self.phase {
             Phase::Resting | Phase::Over => Some(Refusal::NotOpenToStep),
@@ -125,8 +125,8 @@ impl<B: Board> Count<B> {
     fn act(&mut self, k: usize)
         requires within { k < count_in self.old.rows }
         requires live { is_open self.old.phase ≡ true }
-        requires ready { ready (tree_in self.old.rows 0) (marks_in self.old.rows) (present self.old.board) k ≡ true }
-        ensures leaves { state_of present self.new ≡ step_state (kinds_of self.old) (state_of present self.old) k }
+        requires ready { ready (tree_in self.old.rows 0) (marks_in self.old.rows) (B.present self.old.board) k ≡ true }
+        ensures leaves { state_of B.present self.new ≡ step_state (kinds_of self.old) (state_of B.present self.old) k }
         ensures kinds { kinds_of self.new ≡ kinds_of self.old }
         ensures signals { signals_of self.new ≡ signals_of self.old }
     {
@@ -145,7 +145,7 @@ impl<B: Board> Count<B> {
 
     // One step of a ready statement.
     pub fn step(&mut self, k: usize) -> Result<(), Refusal>
-        ensures { Steps present self.old self.new k result }
+        ensures { Steps B.present self.old self.new k result }
     {
         match self.step_refusal(k) {
             Some(refusal) => Err(refusal),
@@ -160,14 +160,14 @@ impl<B: Board> Count<B> {
 impl<B: Board> Count<B> {
     // The lowest ready statement.
     pub(crate) fn lowest(&self) -> Option<usize>
-        ensures { result ≡ lowest (ready (tree_in self.now.rows 0) (marks_in self.now.rows) (present self.now.board)) (length (kinds_of self.now)) }
+        ensures { result ≡ lowest (ready (tree_in self.now.rows 0) (marks_in self.now.rows) (B.present self.now.board)) (length (kinds_of self.now)) }
     {
         ready::least_ready(&self.rows, &self.board, 0)
     }
 
     fn is_shown(&self, s: usize) -> bool
         requires { s < 64 }
-        ensures { result ≡ shown_out (signals_of self.now) (present self.now.board) s }
+        ensures { result ≡ shown_out (signals_of self.now) (B.present self.now.board) s }
     {
         matches!(self.signal_at(s), SignalKind::Output) && self.board.ask(s as u8)
     }
@@ -183,7 +183,7 @@ impl<B: Board> Count<B> {
 
     // The word of the present output signals.
     fn outputs(&self) -> u64
-        ensures { result ≡ outputs_of (signals_of self.now) (present self.now.board) }
+        ensures { result ≡ outputs_of (signals_of self.now) (B.present self.now.board) }
     {
         let n = self.rows.routine.table.signals.len();
         let mut word: u64 = 0;
@@ -196,7 +196,7 @@ impl<B: Board> Count<B> {
 
     fn close_refusal(&self) -> Option<Refusal>
         ensures live { elim result [ None ↦ is_open self.now.phase ≡ true | Some _ ↦ Unit {0} ] }
-        ensures why { result ≡ close_refusal (kinds_of self.now) (state_of present self.now) }
+        ensures why { result ≡ close_refusal (kinds_of self.now) (state_of B.present self.now) }
     {
         match self.phase {
             Phase::Resting | Phase::Over => Some(Refusal::NotOpenToClose),
@@ -209,7 +209,7 @@ impl<B: Board> Count<B> {
 
     // Ends the instant, where nothing is ready any more.
     pub fn close(&mut self) -> Result<Closing, Refusal>
-        ensures { Closes present self.old self.new result }
+        ensures { Closes B.present self.old self.new result }
     {
         match self.close_refusal() {
             Some(refusal) => Err(refusal),
@@ -236,7 +236,7 @@ impl<B: Board> Count<B> {
     // Steps the lowest ready statement until none is ready.
     fn settle(&mut self)
         requires { is_open self.old.phase ≡ true }
-        ensures leaves { state_of present self.new ≡ run_of (kinds_of self.old) (4 * length (kinds_of self.old)) (state_of present self.old) }
+        ensures leaves { state_of B.present self.new ≡ run_of (kinds_of self.old) (4 * length (kinds_of self.old)) (state_of B.present self.old) }
         ensures kinds { kinds_of self.new ≡ kinds_of self.old }
         ensures signals { signals_of self.new ≡ signals_of self.old }
     {
@@ -251,7 +251,7 @@ impl<B: Board> Count<B> {
 
     // A whole instant: begins with the word, steps the lowest ready statement until none is ready, and closes.
     pub fn react(&mut self, word: u64) -> Result<Closing, Refusal>
-        ensures { Reacts present self.old self.new word result }
+        ensures { Reacts B.present self.old self.new word result }
     {
         self.begin(word)?;
         self.settle();

@@ -13,21 +13,21 @@ use signals::Board;
 // What can be asked of a count; nothing is altered.
 impl<B: Board> Count<B> {
     pub fn phase(&self) -> Phase
-        ensures { result ≡ (state_of present self.now).phase }
+        ensures { result ≡ (state_of B.present self.now).phase }
     {
         self.phase
     }
 
     // How many instants are closed.
     pub fn closed(&self) -> u32
-        ensures { result ≡ (state_of present self.now).closed }
+        ensures { result ≡ (state_of B.present self.now).closed }
     {
         self.closed
     }
 
     // The steps of the open instant.
     pub fn steps(&self) -> u16
-        ensures { result ≡ (state_of present self.now).steps }
+        ensures { result ≡ (state_of B.present self.now).steps }
     {
         self.steps
     }
@@ -48,7 +48,7 @@ impl<B: Board> Count<B> {
 
     // The mark of statement i, if there is one.
     pub fn mark(&self, i: usize) -> Option<Mark>
-        ensures { result ≡ (if nat_lt i (length (kinds_of self.now)) then Some (at (state_of present self.now).marks i) else None) }
+        ensures { result ≡ (if nat_lt i (length (kinds_of self.now)) then Some (at (state_of B.present self.now).marks i) else None) }
     {
         if i < self.rows.len() {
             Some(self.rows.mark(i))
@@ -59,21 +59,21 @@ impl<B: Board> Count<B> {
 
     // Would the rules let statement k be stepped, if the instant is open?
     pub fn is_ready(&self, k: usize) -> bool
-        ensures { result ≡ ready (tree_at (kinds_of self.now) 0) (state_of present self.now).marks (state_of present self.now).present k }
+        ensures { result ≡ ready (tree_at (kinds_of self.now) 0) (state_of B.present self.now).marks (state_of B.present self.now).present k }
     {
         ready::is_ready(&self.rows, &self.board, 0, k)
     }
 
     // The lowest such statement.
     pub fn lowest_ready(&self) -> Option<usize>
-        ensures { result ≡ lowest (ready (tree_at (kinds_of self.now) 0) (state_of present self.now).marks (state_of present self.now).present) (length (kinds_of self.now)) }
+        ensures { result ≡ lowest (ready (tree_at (kinds_of self.now) 0) (state_of B.present self.now).marks (state_of B.present self.now).present) (length (kinds_of self.now)) }
     {
         self.lowest()
     }
 
     // Is the signal present?
     pub fn is_present(&self, signal: u8) -> bool
-        ensures { result ≡ slice_index_or (state_of present self.now).present signal false }
+        ensures { result ≡ slice_index_or (state_of B.present self.now).present signal false }
     {
         self.board.ask(signal)
     }

@@ -11,7 +11,7 @@ use signals::Board;
 // Is the signal of statement i present?
 pub(crate) fn here<B: Board>(rows: &Rows, board: &B, i: usize) -> bool
     requires { i < count_in rows.now }
-    ensures { result ≡ heard (tree_in rows.now i) (present board.now) }
+    ensures { result ≡ heard (tree_in rows.now i) (B.present board.now) }
 {
     match rows.kind(i) {
         Kind::Emit { signal }
@@ -51,7 +51,7 @@ fn lower(a: Option<usize>, b: Option<usize>) -> Option<usize>
 // The lowest ready statement of those inside statement i and itself, in one pass.
 pub(crate) fn least_ready<B: Board>(rows: &Rows, board: &B, i: usize) -> Option<usize>
     requires { i < count_in rows.now }
-    ensures { result ≡ least_ready (tree_in rows.now i) (marks_in rows.now) (present board.now) }
+    ensures { result ≡ least_ready (tree_in rows.now i) (marks_in rows.now) (B.present board.now) }
 {
     let kind = rows.kind(i);
     if rows.applies(i, here(rows, board, i)) {
@@ -86,7 +86,7 @@ pub(crate) fn least_ready<B: Board>(rows: &Rows, board: &B, i: usize) -> Option<
 // Is statement k, which lies inside statement i or is it, ready?
 pub(crate) fn is_ready<B: Board>(rows: &Rows, board: &B, i: usize, k: usize) -> bool
     requires { i < count_in rows.now }
-    ensures { result ≡ ready (tree_in rows.now i) (marks_in rows.now) (present board.now) k }
+    ensures { result ≡ ready (tree_in rows.now i) (marks_in rows.now) (B.present board.now) k }
 {
     let kind = rows.kind(i);
     if k == i {

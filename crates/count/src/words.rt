@@ -14,7 +14,7 @@ pub(crate) fn has_bit(word: u64, s: u8) -> bool
 
 // Leaves exactly the signals of the word present.
 pub(crate) fn show<B: Board>(board: &mut B, word: u64)
-    ensures { present board.new ≡ word_set word }
+    ensures { B.present board.new ≡ word_set word }
 {
     board.wipe();
     for s in 0..64 {
@@ -26,7 +26,7 @@ pub(crate) fn show<B: Board>(board: &mut B, word: u64)
 
 // The present signals of a board.
 pub(crate) fn snapshot<B: Board>(board: &B) -> [bool; 64]
-    ensures { result ≡ present board.now }
+    ensures { result ≡ B.present board.now }
 {
     let mut shown = [false; 64];
     for s in 0..64u8 {

@@ -4,6 +4,7 @@ use Rattle.std.proofs.lemmas.List.{append-nil}
 use Rattle.routine.specs.declared.kinds.SignalKind.{SignalKind}
 use Rattle.routine.specs.declared.kinds.Kind.{Kind}
 use Rattle.routine.specs.declared.refusals.Refusal.{Refusal}
+use Rattle.signals.specs.declared.board.Board.{Ghosts}
 use Rattle.count.specs.declared.answers.Closing.{Closing}
 use Rattle.count.specs.declared.counts.Count.{Count}
 use Rattle.count.specs.State.{State}
@@ -22,7 +23,7 @@ refused None e y rest p = absurd (let z : ◌≡◌ {A = ℕ} 0 1 = cc in omega 
 refused (Some x) e y rest p = ap refused_line (let q : x ≡ e = cc in q)
 
 -- a count of that routine reacts to the next word
-module _ {B : Type 0} (present : B → List Bool) (gs : List SignalKind) (ks : List Kind) (c d : Count B) (v w : ℕ) (ws a b t : List ℕ)
+module _ {B : Type 0} {G : Ghosts B} (present : B → List Bool) (gs : List SignalKind) (ks : List Kind) (c d : Count B G) (v w : ℕ) (ws a b t : List ℕ)
     (own_kinds : kinds_of c ≡ ks) (own_signals : signals_of c ≡ gs) (read : v ≡ w) (todo : a ++ lines gs ks (state_of present c) (w ∷ ws) ≡ t) where
   abbrev s : State
   s = state_of present c

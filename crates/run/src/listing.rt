@@ -33,7 +33,7 @@ fn write_refusal(out: &mut String, refusal: Refusal) -> fmt::Result
 
 // A line for each word that the count reacts to; a refusal is the last.
 fn write_lines<B: Board>(out: &mut String, count: &mut Count<B>, bytes: &[u8]) -> fmt::Result
-    ensures { OnOk result (string_bytes out.new ≡ string_bytes out.old ++ lines (signals_of count.old) (kinds_of count.old) (state_of present count.old) (words_of bytes.now)) }
+    ensures { OnOk result (string_bytes out.new ≡ string_bytes out.old ++ lines (signals_of count.old) (kinds_of count.old) (state_of B.present count.old) (words_of bytes.now)) }
 {
     for k in 0..bytes.len() / 8 {
         match count.react(word_at(bytes, 8 * k)) {

@@ -17,7 +17,7 @@ fn answers<B: Board>(board: &B) -> u64 {
 
 // Every call, on any board that is empty at first.
 fn exercise<B: Board>(rt: &impl Abort, board: &mut B)
-    requires { present board.old ≡ empty }
+    requires { B.present board.old ≡ empty }
 {
     board.raise(64);
     board.raise(255);

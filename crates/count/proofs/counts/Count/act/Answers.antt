@@ -9,14 +9,20 @@ fire-requires g c =
 
 pub invariant_of-self : goal.invariant_of-self
 invariant_of-self g c =
-    let s = c.args.self.now in (
-      step_sound s.phase s.rows _ _ c.args.k c.requires.live s.legal c.requires.ready c.fire.ensures,
-      ((λ h. absurd (open_not_over s.phase c.requires.live h)), ((λ h. absurd (never _ c.requires.live h)), (s.room, tt))),
-    )
+    let s = c.args.self.now in
+    record {
+      legal = step_sound s.phase s.rows _ _ c.args.k c.requires.live s.legal c.requires.ready c.fire.ensures;
+      finished = λ h. absurd (open_not_over s.phase c.requires.live h);
+      calm = λ h. absurd (never _ c.requires.live h);
+      room = s.room;
+    }
 
 pub invariant_of-self-else-self-lt65535 : goal.invariant_of-self-else-self-lt65535
 invariant_of-self-else-self-lt65535 g c =
-    let s = c.args.self.now in (
-      step_sound s.phase s.rows _ _ c.args.k c.requires.live s.legal c.requires.ready c.fire.ensures,
-      ((λ h. absurd (open_not_over s.phase c.requires.live h)), ((λ h. absurd (never _ c.requires.live h)), (s.room, tt))),
-    )
+    let s = c.args.self.now in
+    record {
+      legal = step_sound s.phase s.rows _ _ c.args.k c.requires.live s.legal c.requires.ready c.fire.ensures;
+      finished = λ h. absurd (open_not_over s.phase c.requires.live h);
+      calm = λ h. absurd (never _ c.requires.live h);
+      room = s.room;
+    }

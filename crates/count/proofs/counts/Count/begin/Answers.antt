@@ -6,4 +6,4 @@ pub invariant_of-self : goal.invariant_of-self
 invariant_of-self g c =
     let s = c.args.self.now in
     let r = c.in-None.ensures.room in
-    (begin_sound s.phase s.rows r.1 s.legal, ((λ h. absurd (never false h refl)), ((λ h. refl), ((λ h. r.0), tt))))
+    record { legal = begin_sound s.phase s.rows r.1 s.legal; finished = λ h. absurd (never false h refl); calm = λ h. refl; room = λ h. r.0 }

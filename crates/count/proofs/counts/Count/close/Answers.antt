@@ -6,10 +6,10 @@ pub invariant_of-self : goal.invariant_of-self
 invariant_of-self g c =
     let s = c.args.self.now in
     let o = c.in-None.ensures.live in
-    let f = c.phase_after-self.ensures in (
-      close_keeps c.phase_after-self.result s.phase c.over-over.result s.rows _ _ f o s.legal c.end.ensures,
-      (
-        close_finished c.phase_after-self.result s.phase c.over-over.result s.rows _ _ f c.over-over.ensures o s.legal c.end.ensures,
-        ((λ h. refl), ((λ h. absurd (never _ h (after_not_open _ _ f))), tt)),
-      ),
-    )
+    let f = c.phase_after-self.ensures in
+    record {
+      legal = close_keeps c.phase_after-self.result s.phase c.over-over.result s.rows _ _ f o s.legal c.end.ensures;
+      finished = close_finished c.phase_after-self.result s.phase c.over-over.result s.rows _ _ f c.over-over.ensures o s.legal c.end.ensures;
+      calm = λ h. refl;
+      room = λ h. absurd (never _ h (after_not_open _ _ f));
+    }

@@ -10,7 +10,7 @@ start ms e = record { phase = Resting; closed = 0; steps = 0; marks = ms; presen
 
 pub invariant_of-result : goal.invariant_of-result
 invariant_of-result g c =
-    (new_keeps _ _ _ c.idle.ensures c.begin.ensures, ((λ h. absurd (never false h refl)), ((λ h. refl), ((λ h. absurd (never false h refl)), tt))))
+    record { legal = new_keeps _ _ _ c.idle.ensures c.begin.ensures; finished = λ h. absurd (never false h refl); calm = λ h. refl; room = λ h. absurd (never false h refl) }
 
 pub returns : goal.returns
 returns g c =

@@ -21,7 +21,7 @@ returns-in-None g c =
     let s = c.loop-turn.self in
     let i = c.loop-turn.invariant in
     record {
-      leaves = run_done (kinds_of s) (4 * c.len-most.result) c.loop-turn.-turn (state_of g.B.Board.present s) (omega arith) c.in-None.ensures ∙ i.3;
+      leaves = run_done (kinds_of s) (4 * c.len-most.result) c.loop-turn._turn (state_of g.B.Board.present s) (omega arith) c.in-None.ensures ∙ i.3;
       kinds = i.1;
       signals = i.2;
     }
@@ -35,8 +35,8 @@ loop-turn-preserved g c =
       ap (λ (t : State). is_open t.phase) a.leaves ∙ i.0,
       a.kinds ∙ i.1,
       a.signals ∙ i.2,
-      ap₂ (λ (ks : List Kind) (t : State). run_of ks (n - (c.loop-turn.-turn + 1)) t) a.kinds a.leaves
-          ∙ run_more (kinds_of s) n c.loop-turn.-turn c.in-Some.k (state_of g.B.Board.present s) (omega arith) c.in-Some.ensures
+      ap₂ (λ (ks : List Kind) (t : State). run_of ks (n - (c.loop-turn._turn + 1)) t) a.kinds a.leaves
+          ∙ run_more (kinds_of s) n c.loop-turn._turn c.in-Some.k (state_of g.B.Board.present s) (omega arith) c.in-Some.ensures
           ∙ i.3,
     )
 
@@ -44,4 +44,4 @@ pub returns : goal.returns
 returns g c =
     let s = c.loop-turn.self in
     let i = c.loop-turn.invariant in
-    record { leaves = run_all (kinds_of s) (4 * c.len-most.result) c.loop-turn.-turn (state_of g.B.Board.present s) (omega arith) ∙ i.3; kinds = i.1; signals = i.2 }
+    record { leaves = run_all (kinds_of s) (4 * c.len-most.result) c.loop-turn._turn (state_of g.B.Board.present s) (omega arith) ∙ i.3; kinds = i.1; signals = i.2 }

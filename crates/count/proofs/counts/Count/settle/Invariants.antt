@@ -9,5 +9,5 @@ invariant-loop-turn g l =
     (is_open l.self.phase ≡ true)
     × (kinds_of l.self ≡ kinds_of l.initial.self)
     × (signals_of l.self ≡ signals_of l.initial.self)
-    × (run_of (kinds_of l.self) (l.most - l.-turn) (state_of g.B.Board.present l.self)
+    × (run_of (kinds_of l.self) (l.most - l._turn) (state_of g.B.Board.present l.self)
     ≡ run_of (kinds_of l.initial.self) (4 * length (kinds_of l.initial.self)) (state_of g.B.Board.present l.initial.self))
