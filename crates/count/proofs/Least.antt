@@ -1,5 +1,5 @@
 -- one pass down the tree finds the lowest ready statement
-use Rattle.std.proofs.Common.{◌≡◌, ℕ, zero, suc, ◌<◌, ◌≤◌, min, Bool, true, false, cond, not, ◌&&◌, ◌||◌, ◌⊎◌, List, length, get_or, Some, None, Option, sym, refl, ap, ◌∙◌, subst, ap₂, inl, inr, arith}
+use Rattle.std.proofs.Common.{◌≡◌, ℕ, zero, suc, ◌<◌, min, Bool, true, false, cond, not, ◌&&◌, ◌||◌, List, length, Some, None, Option, sym, refl, ap, ◌∙◌, subst, ap₂, inl, inr, arith}
 use native.Mathlib.Decide.{ℕ_discrete, dec_lt}
 use Rattle.routine.specs.declared.kinds.Kind.{Kind}
 use Rattle.routine.specs.Kinds.{Shape, no_part, one_part, two_parts, shape_at}
@@ -7,8 +7,7 @@ use Rattle.routine.specs.Tree.{node, tree_at}
 use Rattle.routine.specs.Search.{or_last, lowest}
 use Rattle.routine.proofs.Trees.{Part, Rising, unroll, trees, under_below}
 use Rattle.routine.proofs.Searches.{lowest_here}
-use Rattle.rules.specs.Rules.{Mark, Signals, Leaf, One, Two, Tree, leaf, one, two, at, over, ready, leaf_rule, one_rule, two_rule, shut, pick}
-use Rattle.rules.proofs.Frames.{In}
+use Rattle.rules.specs.Rules.{Mark, Signals, Leaf, Two, Tree, leaf, one, two, at, over, ready, leaf_rule, one_rule, two_rule, shut, pick}
 use Rattle.rules.proofs.Steps.{unready}
 use Rattle.rules.proofs.Table.{in_under}
 use Rattle.count.specs.Machine.{leaf_heard, two_heard, heard, leaf_applies, two_applies, applies, lower_of, least_ready}

@@ -1,5 +1,5 @@
 -- a word made from its highest bit down
-use Rattle.std.proofs.Common.{◌≡◌, ℕ, zero, suc, ◌+◌, ◌-◌, ◌*◌, ◌^◌, ◌<◌, ◌≤◌, Bool, true, false, cond, sym, refl, ap, ◌∙◌, ap₂, pow-suc, arith, pow_mono}
+use Rattle.std.proofs.Common.{◌≡◌, ℕ, zero, suc, ◌+◌, ◌-◌, ◌*◌, ◌^◌, ◌<◌, ◌≤◌, Bool, true, false, cond, sym, ap, ◌∙◌, ap₂, pow-suc, arith, pow_mono}
 use Rattle.rules.specs.Model.{word_from}
 
 word_more : (P : ℕ → Bool) (n k : ℕ) → k < n → cond (P k) 1 0 + 2 * word_from P (n - (k + 1)) (k + 1) ≡ word_from P (n - k) k

@@ -1,5 +1,5 @@
 -- begin, settle and close together are the model's instant
-use Rattle.std.proofs.Common.{◌≡◌, ℕ, ◌*◌, ◌≤◌, Bool, true, false, eqb, List, length, IfErr, Some, None, Ok, Err, Option, Result, sym, refl, ap, ◌∙◌, subst, ap₂, arith}
+use Rattle.std.proofs.Common.{◌≡◌, ℕ, ◌*◌, ◌≤◌, Bool, true, false, List, length, IfErr, Some, None, Ok, Option, Result, sym, refl, ap, ◌∙◌, subst, ap₂, arith}
 use Rattle.routine.specs.declared.kinds.Kind.{Kind}
 use Rattle.routine.specs.declared.kinds.SignalKind.{SignalKind}
 use Rattle.routine.specs.declared.refusals.Refusal.{Refusal}
@@ -11,11 +11,10 @@ use Rattle.count.specs.declared.answers.Closing.{Closing}
 use Rattle.count.specs.declared.counts.Count.{Count}
 use Rattle.count.specs.State.{State}
 use Rattle.count.specs.Phases.{is_open}
-use Rattle.count.specs.View.{marks_in}
 use Rattle.count.specs.Calls.{answer, after, begin_by, begin_refusal, begin_state, close_refusal, closing, close_state, run_of, react_closing, react_state}
 use Rattle.count.specs.CountView.{kinds_of, signals_of, state_of, Does, Closes, Reacts}
 use Rattle.count.proofs.Sound.{checked, kinds_many, begin_sound, legal}
-use Rattle.count.proofs.Turns.{final, runs_to, closes, answers, leaves}
+use Rattle.count.proofs.Turns.{final, runs_to, closes, leaves}
 
 not_refused : {X : Type 0} (o : Option Refusal) (x y : X) → Ok x ≡ answer o y → o ≡ None
 not_refused None x y h = refl

@@ -1,5 +1,5 @@
 -- one row written, as lists
-use Rattle.std.proofs.Common.{◌≡◌, ℕ, ◌<◌, true, List, length, get_or, set, sym, refl, ap, ◌∙◌, subst}
+use Rattle.std.proofs.Common.{◌≡◌, ℕ, ◌<◌, true, List, length, get_or, set, sym, ap, ◌∙◌, subst}
 use Rattle.std.proofs.lemmas.List.{map-set, set-get_or, get_or-map, length-map}
 use Rattle.routine.specs.declared.kinds.Statement.{Statement}
 use Rattle.routine.specs.declared.kinds.SignalKind.{SignalKind}

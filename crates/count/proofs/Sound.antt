@@ -1,22 +1,22 @@
 -- what the calls leave of a count's invariant, over its rows
-use Rattle.std.proofs.Common.{◌≡◌, ℕ, suc, ◌+◌, ◌<◌, ◌≤◌, Bool, true, false, not, ◌&&◌, ◌||◌, ◌⊎◌, List, length, get_or, replicate, vec_items, vec_len, sym, refl, ap, ◌∙◌, subst, ap₂, inl, inr, arith, ext_get_or}
+use Rattle.std.proofs.Common.{◌≡◌, ℕ, ◌<◌, Bool, true, false, ◌||◌, List, length, replicate, vec_items, vec_len, sym, refl, ap, ◌∙◌, subst, ap₂, arith, ext_get_or}
 use lib.ListN.{length-replicate}
 use Rattle.routine.specs.declared.kinds.Kind.{Kind}
 use Rattle.routine.specs.Tree.{tree_at}
 use Rattle.routine.specs.Search.{lowest}
 use Rattle.routine.proofs.Lists.{kinds_length}
 use Rattle.routine.proofs.Whole.{some_statement, rises}
-use Rattle.rules.specs.Rules.{rule, Two, is_done, two_over, two_ended, Mark, idle, Signals, Tree, leaf, one, two, at, is_live, begun, idled, over, ready, fire, ended}
+use Rattle.rules.specs.Rules.{rule, Two, is_done, two_over, two_ended, Mark, idle, Signals, Tree, leaf, one, two, at, begun, idled, over, ready, fire, ended}
 use Rattle.rules.specs.Legal.{Legal, keeps, two_legal}
-use Rattle.rules.specs.Model.{Config, Ready, stepped, first_marks}
+use Rattle.rules.specs.Model.{first_marks}
 use Rattle.rules.specs.Theorems.{Checked, MarksStayLegal}
-use Rattle.rules.proofs.MarkedTrees.{live, rest, Legal as Lawful}
-use Rattle.rules.proofs.Shapes.{blank, marked}
-use Rattle.rules.proofs.Frames.{In, idled_same, idled_kept, marked_rest, over_same}
+use Rattle.rules.proofs.MarkedTrees.{live, Legal as Lawful}
+use Rattle.rules.proofs.Shapes.{marked}
+use Rattle.rules.proofs.Frames.{idled_same, idled_kept, marked_rest, over_same}
 use Rattle.rules.proofs.FlatRuns.{same_marks}
 use Rattle.rules.proofs.Positions.{idle_over}
 use Rattle.rules.proofs.Table.{sound}
-use Rattle.rules.proofs.Instants.{idle_blank, all_idle}
+use Rattle.rules.proofs.Instants.{idle_blank}
 use Rattle.rules.proofs.Final.{to_legal}
 use Rattle.rules.proofs.Promises.{rows}
 use Rattle.rules.proofs.Checked.{table, of_routine}

@@ -1,5 +1,5 @@
 -- turns of a run, and what the model makes of them
-use Rattle.std.proofs.Common.{◌≡◌, ℕ, zero, suc, ◌+◌, ◌-◌, ◌*◌, ◌<◌, ◌≤◌, Bool, true, false, cond, ltb, List, [], ◌∷◌, length, Some, None, Option, sym, refl, ap, ◌∙◌, subst, ap₂, arith}
+use Rattle.std.proofs.Common.{◌≡◌, ℕ, zero, suc, ◌+◌, ◌-◌, ◌*◌, ◌<◌, ◌≤◌, Bool, true, false, cond, List, length, Some, None, Option, sym, refl, ap, ◌∙◌, subst, arith}
 use Rattle.std.proofs.lemmas.Bool.{lt-ltb}
 use Rattle.routine.specs.declared.kinds.Kind.{Kind}
 use Rattle.routine.specs.declared.kinds.SignalKind.{SignalKind}
@@ -7,15 +7,13 @@ use Rattle.routine.specs.Search.{lowest}
 use Rattle.routine.specs.Tree.{tree_at}
 use Rattle.routine.proofs.Searches.{Found, found, lowest_below}
 use Rattle.signals.specs.Sets.{word_set, empty}
-use Rattle.rules.specs.Runs.{Quiet}
-use Rattle.rules.specs.Rules.{Mark, Signals, over, ready}
+use Rattle.rules.specs.Rules.{over, ready}
 use Rattle.rules.specs.Legal.{Legal}
-use Rattle.rules.specs.Model.{Config, Ready, stepped, lowest_ready, turned, first_then, settled, path, enough, status_of, Outcome, instant}
+use Rattle.rules.specs.Model.{Config, stepped, lowest_ready, turned, first_then, settled, path, enough, status_of, instant}
 use Rattle.rules.specs.Theorems.{Checked}
 use Rattle.rules.proofs.Promises.{instant_ends}
 use Rattle.count.specs.declared.answers.Phase.{Phase}
-use Rattle.count.specs.declared.answers.Phase.TheVariants.{Resting, Open, Over}
-use Rattle.count.specs.declared.answers.Closing.{Closing}
+use Rattle.count.specs.declared.answers.Phase.TheVariants.{Open}
 use Rattle.count.specs.State.{State}
 use Rattle.count.specs.Calls.{one_more, step_state, turn, run_of, begin_state, close_refusal, closing, close_state, react_closing, react_state, phase_after, phase_of, still_ready}
 use Rattle.count.proofs.Least.{all_false}

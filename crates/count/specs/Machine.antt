@@ -1,7 +1,7 @@
 -- the rules as the code takes them: with the presence of a statement's own signal, and the lowest ready statement in one pass
 use Rattle.std.specs.Prelude.{ℕ, min, Bool, true, false, cond, List, Some, None, Option, slice_index_or}
 use Rattle.rules.specs.Rules.{Mark, idle, waiting, underway, done, Leaf, nothing, stop, emit, wait, One, loop, kill, local, Two, sequence, parallel, when, Tree, leaf, one, two}
-use Rattle.rules.specs.Rules.{Signals, at, over, leaf_rule, one_rule, two_rule, shut}
+use Rattle.rules.specs.Rules.{Signals, at, over, one_rule, shut}
 
 -- the statement's own signal is present
 abbrev pub leaf_heard : Leaf → Signals → Bool

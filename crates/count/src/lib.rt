@@ -1,3 +1,5 @@
+#![tactic(auto)]
+
 pub mod answers;
 pub mod calls;
 pub mod counts;

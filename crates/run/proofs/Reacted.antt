@@ -1,5 +1,5 @@
 -- the lines of a count that has reacted to one word more
-use Rattle.std.proofs.Common.{◌≡◌, ℕ, Bool, List, [], ◌∷◌, ◌++◌, Some, None, Ok, Err, Option, Result, sym, refl, ap, ◌∙◌, ap₂, arith}
+use Rattle.std.proofs.Common.{◌≡◌, ℕ, Bool, List, [], ◌∷◌, ◌++◌, Some, None, Ok, Err, Option, sym, ap, ◌∙◌, ap₂, arith}
 use Rattle.std.proofs.lemmas.List.{append-nil}
 use Rattle.routine.specs.declared.kinds.SignalKind.{SignalKind}
 use Rattle.routine.specs.declared.kinds.Kind.{Kind}

@@ -1,3 +1,5 @@
+#![tactic(auto)]
+
 mod hex;
 mod input;
 mod listing;

@@ -1,4 +1,6 @@
 // Prints what the plain model makes of the worked routines, a line for each instant.
+#![tactic(auto)]
+
 use rules::worked_routines;
 use std::io;
 

@@ -1,4 +1,3 @@
-use Rattle.std.proofs.Common.{arith, rules}
 use Rattle.run.proofs.Texts.{hex_more, hex_none}
 use Rattle.run.proofs.hex.write_hex.Goals as goal
 

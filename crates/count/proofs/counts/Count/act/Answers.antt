@@ -1,4 +1,3 @@
-use Rattle.std.proofs.Common.{rules}
 use Rattle.count.proofs.Sound.{ready_applies, step_sound, open_not_over, never}
 use Rattle.count.proofs.counts.Count.act.Goals as goal
 

@@ -1,4 +1,4 @@
-use Rattle.std.proofs.Common.{refl, rules}
+use Rattle.std.proofs.Common.{refl}
 use Rattle.count.proofs.Sound.{close_keeps, close_finished, after_not_open, never}
 use Rattle.count.proofs.counts.Count.close.Goals as goal
 

@@ -1,5 +1,5 @@
 use Rattle.std.proofs.Common.{◌∙◌}
-use Rattle.count.proofs.Sound.{least_is_lowest, some_row}
+use Rattle.count.proofs.Sound.{least_is_lowest}
 use Rattle.count.proofs.counts.Count.lowest.Goals as goal
 
 pub returns : goal.returns

@@ -1,4 +1,4 @@
-use Rattle.std.proofs.Common.{◌≡◌, ◌+◌, ◌-◌, ◌*◌, ◌<◌, List, length, ap, ◌∙◌, ap₂, arith}
+use Rattle.std.proofs.Common.{◌+◌, ◌-◌, ◌*◌, List, length, ap, ◌∙◌, ap₂, arith}
 use Rattle.routine.specs.declared.kinds.Kind.{Kind}
 use Rattle.rules.specs.Rules.{ready}
 use Rattle.count.specs.Phases.{is_open}

@@ -1,4 +1,4 @@
-use Rattle.std.proofs.Common.{vec_items, vec_len, refl, arith, rules}
+use Rattle.std.proofs.Common.{vec_items, refl, arith}
 use Rattle.count.proofs.RowLists.{kinds_kept, marks_set, formed_kept, passes_kept}
 use Rattle.count.proofs.rows.Rows.put.Goals as goal
 
