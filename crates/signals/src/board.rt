@@ -1,8 +1,8 @@
 ghost use Rattle.std.specs.Prelude.{◌≡◌, Bool, true, false, List, length, slice_index_or, slice_set};
 ghost use Rattle.signals.specs.Sets.{empty};
 
-// Which of the signals 0 to 63 are present. A call takes any number: `set` leaves a list as it is past its
-// end, and `get_or` gives its default there, so above 63 `raise` and `lower` alter nothing and `ask` says no.
+// Which of the signals 0 to 63 are present. A call takes any number: `slice_set` leaves a list as it is past its
+// end, and `slice_index_or` gives its default there, so above 63 `raise` and `lower` alter nothing and `ask` says no.
 pub trait Board {
     // The present signals: at place k, is signal k present?
     ghost present: { Self → List Bool };
@@ -23,5 +23,6 @@ pub trait Board {
     fn ask(&self, signal: u8) -> bool
         ensures { result ≡ slice_index_or (present self.now) signal false };
 
+    // A law: the set has 64 places, whatever happened to the board.
     ghost size: { (b : Self) → length (present b) ≡ 64 };
 }
