@@ -4,7 +4,7 @@ use Rattle.std.specs.List.{range_with_len}
 use Rattle.std.proofs.lemmas.List.FromFn.{length-map-range_with_len, get_or-map-range_with_len}
 use Rattle.std.proofs.lemmas.Bool.{cases_lt, cases_eq, lt-ltb, le-ltb}
 use Rattle.signals.specs.Sets.{empty, word_set}
-use Rattle.signals.specs.SetsLemmas.{map_is, map-empty, map-set}
+use Rattle.signals.proofs.Sets.{map_is, map-empty, map-set}
 use Rattle.count.specs.Calls.{bit}
 
 -- the signals of w below i

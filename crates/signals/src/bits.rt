@@ -1,6 +1,6 @@
 ghost use Rattle.std.specs.Prelude.{◌≡◌};
 ghost use Rattle.signals.specs.Sets.{empty, word_set};
-ghost use Rattle.signals.specs.WordSets.{length-word_set};
+ghost use Rattle.signals.specs.Sizes.{length-word_set};
 
 use super::board::Board;
 

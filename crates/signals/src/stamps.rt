@@ -1,6 +1,6 @@
 ghost use Rattle.std.specs.Prelude.{◌≡◌, ℕ, ◌<◌, ◌≤◌, true, false, replicate, slice_index, slice_set};
 ghost use Rattle.signals.specs.Sets.{empty, stamp_set, next_stamp, wiped_stamps};
-ghost use Rattle.signals.specs.StampSets.{length-stamp_set};
+ghost use Rattle.signals.specs.Sizes.{length-stamp_set};
 
 use super::board::Board;
 

@@ -1,6 +1,7 @@
 use Rattle.std.proofs.Common.{rules}
-use Rattle.signals.specs.SetsLemmas.{set-above}
-use Rattle.signals.specs.WordSets.{length-word_set, word_set-raised}
+use Rattle.signals.proofs.Sets.{set-above}
+use Rattle.signals.proofs.WordSets.{word_set-raised}
+use Rattle.signals.specs.Sizes.{length-word_set}
 use Rattle.signals.proofs.bits.BitBoardBoard.raise.Goals as goal
 
 pub returns-then-signal-lt64 : goal.returns-then-signal-lt64

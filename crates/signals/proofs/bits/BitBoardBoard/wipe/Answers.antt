@@ -1,5 +1,5 @@
 use Rattle.std.proofs.Common.{rules}
-use Rattle.signals.specs.WordSets.{word_set-zero}
+use Rattle.signals.proofs.WordSets.{word_set-zero}
 use Rattle.signals.proofs.bits.BitBoardBoard.wipe.Goals as goal
 
 pub returns : goal.returns

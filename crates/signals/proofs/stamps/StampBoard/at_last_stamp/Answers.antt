@@ -1,5 +1,5 @@
 use Rattle.std.proofs.Common.{rules}
-use Rattle.signals.specs.StampSets.{stamp_set-replicate, bounded_replicate}
+use Rattle.signals.proofs.StampSets.{stamp_set-replicate, bounded_replicate}
 use Rattle.signals.proofs.stamps.StampBoard.at_last_stamp.Goals as goal
 
 pub invariant_of-result : goal.invariant_of-result

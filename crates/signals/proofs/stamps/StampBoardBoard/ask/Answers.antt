@@ -1,6 +1,7 @@
 use Rattle.std.proofs.Common.{rules}
-use Rattle.signals.specs.SetsLemmas.{get_or-above}
-use Rattle.signals.specs.StampSets.{length-stamp_set, get_or-stamp_set}
+use Rattle.signals.proofs.Sets.{get_or-above}
+use Rattle.signals.proofs.StampSets.{get_or-stamp_set}
+use Rattle.signals.specs.Sizes.{length-stamp_set}
 use Rattle.signals.proofs.stamps.StampBoardBoard.ask.Goals as goal
 
 pub returns-then-signal-lt64 : goal.returns-then-signal-lt64

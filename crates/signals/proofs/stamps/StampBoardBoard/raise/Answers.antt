@@ -1,6 +1,7 @@
 use Rattle.std.proofs.Common.{rules}
 use Rattle.std.proofs.lemmas.List.{set_past}
-use Rattle.signals.specs.StampSets.{length-stamp_set, stamp_set-set, bounded_set}
+use Rattle.signals.proofs.StampSets.{stamp_set-set, bounded_set}
+use Rattle.signals.specs.Sizes.{length-stamp_set}
 use Rattle.signals.proofs.stamps.StampBoardBoard.raise.Goals as goal
 
 pub invariant_of-self : goal.invariant_of-self

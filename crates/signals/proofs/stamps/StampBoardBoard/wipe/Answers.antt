@@ -1,6 +1,6 @@
 use Rattle.std.proofs.Common.{rules}
 use Rattle.std.proofs.lemmas.Bool.{le-ltb}
-use Rattle.signals.specs.StampSets.{stamp_set-next, stamp_set-replicate, bounded_replicate}
+use Rattle.signals.proofs.StampSets.{stamp_set-next, stamp_set-replicate, bounded_replicate}
 use Rattle.signals.proofs.stamps.StampBoardBoard.wipe.Goals as goal
 
 pub invariant_of-self-else-self-lt4294967295 : goal.invariant_of-self-else-self-lt4294967295

@@ -1,15 +1,15 @@
 -- The set of a word.
-use Rattle.std.specs.Prelude.{◌≡◌, ℕ, suc, ◌+◌, ◌-◌, ◌*◌, ◌/◌, ◌%◌, ◌^◌, ◌<◌, ◌≤◌, true, false, ◌≢◌, ◌⊎◌, map, length, ◌==◌, nat_eq, slice_index_or, slice_set}
+use Rattle.std.specs.Prelude.{◌≡◌, ℕ, suc, ◌+◌, ◌-◌, ◌*◌, ◌/◌, ◌%◌, ◌^◌, ◌<◌, ◌≤◌, true, false, ◌≢◌, ◌⊎◌, map, ◌==◌, nat_eq, slice_index_or, slice_set}
 use Rattle.std.proofs.Common.{sym, ◌∙◌, ap, inl, inr, ⊎_elim, arith}
 use Rattle.std.proofs.Math.Nat.{div-eq_of_lt, zero-div}
 use Rattle.std.specs.Int.Bits.{bit_and, bit_or, bit_xor, xor_add_and, shifted_even, and_zero_r, or_zero_r}
 use Rattle.std.proofs.Math.Pow.{ones_split}
 use Rattle.std.specs.List.{range_with_len}
 use Rattle.std.proofs.lemmas.Nat.{pow_pos, pow-add, pow_below, shl-shr, one_shl, mod_below, shr_high, and_shr, or_shr, xor_shr, and_mod, or_mod, xor_mod, and_mask}
-use Rattle.std.proofs.lemmas.List.FromFn.{length-map-range_with_len, get_or-map-range_with_len}
+use Rattle.std.proofs.lemmas.List.FromFn.{get_or-map-range_with_len}
 use Rattle.std.proofs.lemmas.Bool.{cases_lt, cases_eq}
 use Rattle.signals.specs.Sets.{empty, word_set}
-use Rattle.signals.specs.SetsLemmas.{map-empty, map-set}
+use Rattle.signals.proofs.Sets.{map-empty, map-set}
 
 -- bit k of w
 abbrev bit : ℕ → ℕ → ℕ
@@ -81,10 +81,6 @@ or_one b h = ⊎_elim (λ e. ap (λ n. bit_or n 1) e) (λ e. ap (λ n. bit_or n 
 
 and_one : (b : ℕ) → (b ≡ 0) ⊎ (b ≡ 1) → bit_and b 1 ≡ b
 and_one b h = ⊎_elim (λ e. ap (λ n. bit_and n 1) e ∙ sym e) (λ e. ap (λ n. bit_and n 1) e ∙ sym e) h
-
-pub length-word_set : (w : ℕ) → length (word_set w) ≡ 64
-unfolding word_set
-length-word_set w = length-map-range_with_len (λ k. nat_eq (bit w k) 1) 0 64
 
 pub get_or-word_set : (w s : ℕ) → s < 64 → slice_index_or (word_set w) s false ≡ (w / 2 ^ s % 2 == 1)
 unfolding word_set

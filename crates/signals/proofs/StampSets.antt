@@ -1,19 +1,15 @@
 -- The set of a row of stamps.
 use Rattle.std.specs.Prelude.{◌≡◌, ℕ, ◌+◌, ◌<◌, ◌≤◌, Bool, false, ◌≢◌, List, length, replicate, ◌==◌, nat_eq, slice_index, slice_index_or, slice_set}
 use Rattle.std.proofs.Common.{sym, ◌∙◌, ap, ⊎_elim, arith}
-use Rattle.std.proofs.lemmas.List.FromFn.{length-map-range_with_len, get_or-map-range_with_len}
+use Rattle.std.proofs.lemmas.List.FromFn.{get_or-map-range_with_len}
 use Rattle.std.proofs.lemmas.List.{get_or-set_same, get_or-set_other, get_or-replicate}
 use Rattle.std.proofs.lemmas.Bool.{ne_eqb, cases_eq}
 use Rattle.signals.specs.Sets.{empty, stamp_set}
-use Rattle.signals.specs.SetsLemmas.{map-empty, map-set}
+use Rattle.signals.proofs.Sets.{map-empty, map-set}
 
 -- no stamp of the row is ahead of c
 abbrev pub Bounded : List ℕ → ℕ → Type 0
 Bounded xs c = (k : ℕ) → k < 64 → slice_index xs k ≤ c
-
-pub length-stamp_set : (xs : List ℕ) (c : ℕ) → length (stamp_set xs c) ≡ 64
-unfolding stamp_set
-length-stamp_set xs c = length-map-range_with_len (λ k. nat_eq (slice_index xs k) c) 0 64
 
 pub get_or-stamp_set : (xs : List ℕ) (c s : ℕ) → s < 64 → slice_index_or (stamp_set xs c) s false ≡ (slice_index xs s == c)
 unfolding stamp_set
