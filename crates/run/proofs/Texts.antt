@@ -1,13 +1,9 @@
--- text written piece by piece
+-- digits written one by one
 use Rattle.std.proofs.Common.{◌≡◌, ℕ, zero, suc, ◌-◌, ◌*◌, ◌/◌, ◌%◌, ◌^◌, ◌<◌, ◌≤◌, List, [], ◌∷◌, ◌++◌, sym, refl, ap, ◌∙◌, pow-suc, arith}
 use lib.Utf8.{encode}
 use Rattle.std.proofs.lemmas.List.{append_assoc, append-nil}
 use Rattle.std.proofs.lemmas.Str.{encode_ascii}
 use Rattle.run.specs.Listing.{digit, hex}
-
--- what was written in two steps
-pub two_steps : (a b c x y : List ℕ) → b ≡ a ++ x → c ≡ b ++ y → c ≡ a ++ (x ++ y)
-two_steps a b c x y e f = f ∙ ap (λ s. s ++ y) e ∙ append_assoc a x y
 
 -- a step of a loop that writes x, where z ++ x ++ y is to come
 pub written : (a b x y t : List ℕ) → b ≡ a ++ x → a ++ (x ++ y) ≡ t → b ++ y ≡ t

@@ -1,16 +1,13 @@
--- text written piece by piece
+-- the lines of the report, piece by piece
 use Rattle.std.proofs.Common.{◌≡◌, ℕ, suc, ◌+◌, ◌<◌, cond, ltb, List, ◌++◌, Some, None, codes, sym, ap, ◌∙◌, arith}
-use Rattle.std.proofs.lemmas.List.{append_assoc, append-nil}
+use Rattle.std.proofs.lemmas.List.{append-nil}
 use Rattle.routine.specs.declared.kinds.Kind.{Kind}
 use Rattle.routine.specs.declared.checked.Routine.{Routine}
 use Rattle.routine.specs.Kinds.{One, Two, one_part, two_parts, shape, kind_at}
 use Rattle.routine.specs.Tree.{Tree, node, tree_at}
 use Rattle.routine.specs.View.{kinds_of, count_of}
+use Rattle.routine.proofs.Written.{two_steps}
 use Rattle.tablecheck.specs.Report.{indent, line_text, outline, census_line}
-
--- what was written in two steps
-pub two_steps : (a b c x y : List ℕ) → b ≡ a ++ x → c ≡ b ++ y → c ≡ a ++ (x ++ y)
-two_steps a b c x y e f = f ∙ ap (λ s. s ++ y) e ∙ append_assoc a x y
 
 pub indent_more : (a b c : List ℕ) (d : ℕ) → b ≡ a ++ indent d → c ≡ b ++ codes "  " → c ≡ a ++ indent (d + 1)
 indent_more a b c d e f =

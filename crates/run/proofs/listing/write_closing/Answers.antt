@@ -1,7 +1,7 @@
 use Rattle.std.proofs.Common.{◌++◌, string_bytes, codes, decimal, ap, ◌∙◌}
 use Rattle.std.proofs.lemmas.List.{append_assoc}
 use Rattle.run.specs.Listing.{hex}
-use Rattle.run.proofs.Texts.{two_steps}
+use Rattle.routine.proofs.Written.{two_steps}
 use Rattle.run.proofs.listing.write_closing.Goals as goal
 
 pub returns : goal.returns

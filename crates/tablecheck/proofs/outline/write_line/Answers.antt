@@ -1,6 +1,6 @@
 use Rattle.std.proofs.Common.{string_bytes}
 use Rattle.tablecheck.specs.Report.{indent}
-use Rattle.tablecheck.proofs.Lines.{two_steps}
+use Rattle.routine.proofs.Written.{two_steps}
 use Rattle.tablecheck.proofs.outline.write_line.Goals as goal
 
 pub returns : goal.returns

@@ -1,5 +1,5 @@
 use Rattle.std.proofs.Common.{string_bytes}
-use Rattle.tablecheck.proofs.Lines.{two_steps}
+use Rattle.routine.proofs.Written.{two_steps}
 use Rattle.tablecheck.proofs.report.write_refusal.Goals as goal
 
 pub returns : goal.returns

@@ -2,7 +2,7 @@ use Rattle.std.proofs.Common.{string_bytes}
 use Rattle.routine.specs.View.{signals_of, kinds_of}
 use Rattle.routine.specs.Tree.{tree_at}
 use Rattle.tablecheck.specs.Report.{census, outline}
-use Rattle.tablecheck.proofs.Lines.{two_steps}
+use Rattle.routine.proofs.Written.{two_steps}
 use Rattle.tablecheck.proofs.report.write_routine.Goals as goal
 
 pub returns : goal.returns
