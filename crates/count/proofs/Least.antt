@@ -1,5 +1,5 @@
 -- one pass down the tree finds the lowest ready statement
-use Rattle.std.proofs.Common.{◌≡◌, ℕ, zero, suc, ◌<◌, min, Bool, true, false, cond, not, ◌&&◌, ◌||◌, List, length, Some, None, Option, sym, refl, ap, ◌∙◌, subst, ap₂, inl, inr, arith}
+use Rattle.std.proofs.Common.{◌≡◌, ℕ, zero, suc, ◌<◌, ◌≤◌, MatchOption, min, Bool, true, false, cond, not, ◌&&◌, ◌||◌, List, length, Some, None, Option, sym, refl, ap, ◌∙◌, subst, ap₂, inl, inr, arith}
 use native.Mathlib.Decide.{ℕ_discrete, dec_lt}
 use Rattle.routine.specs.declared.kinds.Kind.{Kind}
 use Rattle.routine.specs.Kinds.{Shape, no_part, one_part, two_parts, shape_at}
@@ -10,7 +10,7 @@ use Rattle.routine.proofs.Searches.{lowest_here}
 use Rattle.rules.specs.Rules.{Mark, Signals, Leaf, Two, Tree, leaf, one, two, at, over, ready, leaf_rule, one_rule, two_rule, shut, pick}
 use Rattle.rules.proofs.Steps.{unready}
 use Rattle.rules.proofs.Table.{in_under}
-use Rattle.count.specs.Machine.{leaf_heard, two_heard, heard, leaf_applies, two_applies, applies, lower_of, least_ready}
+use Rattle.count.specs.Machine.{leaf_heard, two_heard, leaf_applies, two_applies, lower_of, least_ready}
 
 abbrev IsLeast : (ℕ → Bool) → ℕ → Option ℕ → Type 0
 IsLeast P n None = (k : ℕ) → k < n → P k ≡ false
@@ -23,6 +23,12 @@ all_false P (suc n) h = ap₂ (λ (o : Option ℕ) (b : Bool). or_last o b n) (a
 is_lowest : (P : ℕ → Bool) (n : ℕ) (o : Option ℕ) → IsLeast P n o → o ≡ lowest P n
 is_lowest P n None h = sym (all_false P n h)
 is_lowest P n (Some i) h = sym (lowest_here P n i (all_false P i h.2) h.1 h.0)
+
+-- the same, from what a search from 0 on says of each number
+pub found_lowest : (P : ℕ → Bool) (n : ℕ) (o : Option ℕ)
+    → MatchOption o ((k : ℕ) → 0 ≤ k → k < n → P k ≡ false) (λ i. (0 ≤ i) × (i < n) × (P i ≡ true) × ((k : ℕ) → 0 ≤ k → k < i → P k ≡ false)) → o ≡ lowest P n
+found_lowest P n None h = is_lowest P n None (λ k l. h k (omega arith) l)
+found_lowest P n (Some i) h = is_lowest P n (Some i) (h.1, h.2, λ k l. h.3 k (omega arith) l)
 
 same_least : (P Q : ℕ → Bool) (n : ℕ) (o : Option ℕ) → ((k : ℕ) → P k ≡ Q k) → IsLeast Q n o → IsLeast P n o
 same_least P Q n None e h = λ k l. e k ∙ h k l
@@ -121,15 +127,3 @@ module _ (ks : List Kind) (S : Rising ks) (ms : List Mark) (e : Signals) where
   finds_lowest z =
       is_lowest (ready (tree_at ks 0) ms e) (length ks) (least_ready (tree_at ks 0) ms e)
       (trees ks S Finds (λ a l g. at_shape a (shape_at ks a) l (subst (λ t. (k : ℕ) → k < a → ready t ms e k ≡ false) (unroll ks S a l) (nothing_below a l)) (λ p h. S a l p h) g) 0 z)
-
--- a statement's own rule, with the presence of its signal
-pub own_ready : (ms : List Mark) (e : Signals) (i k : ℕ) (r : Shape) (sub : ℕ → Tree) → k ≡ i
-    → applies (node i r sub) ms (heard (node i r sub) e) ≡ ready (node i r sub) ms e k
-own_ready ms e i k (no_part x) sub h = sym (on_own k i _ _ h ∙ leaf_same e (at ms i) x)
-own_ready ms e i k (one_part x a) sub h = sym (on_own k i _ _ h)
-own_ready ms e i k (two_parts x a b) sub h = sym (on_own k i _ _ h ∙ two_same e (at ms i) x (over (sub a) ms))
-
-pub ready_at_own : (t : Tree) (ms : List Mark) (e : Signals) (i k : ℕ) (r : Shape) (sub : ℕ → Tree) (b h : Bool) → t ≡ node i r sub → k ≡ i
-    → h ≡ heard t e → b ≡ applies t ms h → b ≡ ready t ms e k
-ready_at_own t ms e i k r sub b h q w x y =
-    y ∙ ap (applies t ms) x ∙ subst (λ u. applies u ms (heard u e) ≡ ready u ms e k) (sym q) (own_ready ms e i k r sub w)

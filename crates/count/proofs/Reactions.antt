@@ -12,7 +12,7 @@ use Rattle.count.specs.declared.counts.Count.{Count}
 use Rattle.count.specs.State.{State}
 use Rattle.count.specs.Phases.{is_open}
 use Rattle.count.specs.Calls.{answer, after, begin_by, begin_refusal, begin_state, close_refusal, closing, close_state, run_of, react_closing, react_state}
-use Rattle.count.specs.CountView.{kinds_of, signals_of, state_of, Does, Closes, Reacts}
+use Rattle.count.specs.CountView.{kinds_of, signals_of, state_of, SameRoutine, Does, Closes, Reacts}
 use Rattle.count.proofs.Sound.{checked, kinds_many, begin_sound, legal}
 use Rattle.count.proofs.Turns.{final, runs_to, closes, leaves}
 
@@ -28,7 +28,7 @@ begun_resting Over gs n w h = refl
 module _ {B : Type 0} {G : Ghosts B} (present : B → List Bool) (a b c d : Count B G) (word : ℕ) (r : Result Closing Refusal)
     (u : Unit {0}) (began : Does {X = Unit {0}} present a b (Ok u) (begin_refusal (signals_of a) (state_of present a) word) tt (begin_state (state_of present a) word))
     (settled : state_of present c ≡ run_of (kinds_of b) (4 * length (kinds_of b)) (state_of present b))
-    (kinds : kinds_of c ≡ kinds_of b) (signals : signals_of c ≡ signals_of b)
+    (same : SameRoutine b c)
     (closed : Closes present c d r) where
   abbrev ks : List Kind
   ks = kinds_of a
@@ -56,10 +56,10 @@ module _ {B : Type 0} {G : Ghosts B} (present : B → List Bool) (a b c d : Coun
       ∙ runs_to gs ks (checked a.rows) few s word lawful
 
   same_kinds : kinds_of c ≡ ks
-  same_kinds = kinds ∙ began.kinds
+  same_kinds = same.kinds ∙ began.kinds
 
   same_signals : signals_of c ≡ gs
-  same_signals = signals ∙ began.signals
+  same_signals = same.signals ∙ began.signals
 
   closable : close_refusal (kinds_of c) (state_of present c) ≡ None
   closable = ap₂ close_refusal same_kinds stands ∙ closes gs ks (checked a.rows) few s word lawful

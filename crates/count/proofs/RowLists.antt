@@ -5,7 +5,6 @@ use Rattle.routine.specs.declared.kinds.Statement.{Statement}
 use Rattle.routine.specs.declared.kinds.SignalKind.{SignalKind}
 use Rattle.routine.specs.declared.kinds.Kind.{Kind}
 use Rattle.routine.specs.declared.kinds.Mark.{Mark}
-use Rattle.routine.specs.declared.kinds.Mark.TheVariants.{Idle}
 use Rattle.routine.specs.Kinds.{kinds, marks}
 use Rattle.routine.specs.Layout.{Formed}
 use Rattle.routine.specs.Meaning.{passes}
@@ -24,9 +23,6 @@ formed_kept g ks ls e f = subst (Formed g) (sym e) f
 
 pub passes_kept : (gs : List SignalKind) (ks ls : List Kind) → ls ≡ ks → passes gs ks ≡ true → passes gs ls ≡ true
 passes_kept gs ks ls e f = ap (passes gs) e ∙ f
-
-pub mark_read : (ss : List Statement) (i : ℕ) (r : Statement) → i < length ss → r ≡ get_or ss i r → r.mark ≡ get_or (marks ss) i Idle
-mark_read ss i r l e = ap (λ (r : Statement). r.mark) e ∙ sym (get_or-map (λ (r : Statement). r.mark) ss i r Idle l)
 
 pub marks_length : (ss : List Statement) (n : ℕ) → n ≡ length ss → length (marks ss) ≡ n
 marks_length ss n e = length-map ss (λ (r : Statement). r.mark) ∙ sym e

@@ -8,11 +8,11 @@ use Rattle.routine.proofs.Lists.{kinds_length}
 use Rattle.routine.proofs.Whole.{some_statement, rises}
 use Rattle.rules.specs.Rules.{rule, Two, is_done, two_over, two_ended, Mark, idle, Signals, Tree, leaf, one, two, at, begun, idled, over, ready, fire, ended}
 use Rattle.rules.specs.Legal.{Legal, keeps, two_legal}
-use Rattle.rules.specs.Model.{first_marks}
+use Rattle.rules.specs.Model.{first_marks, status_of}
 use Rattle.rules.specs.Theorems.{Checked, MarksStayLegal}
 use Rattle.rules.proofs.MarkedTrees.{live, Legal as Lawful}
 use Rattle.rules.proofs.Shapes.{marked}
-use Rattle.rules.proofs.Frames.{idled_same, idled_kept, marked_rest, over_same}
+use Rattle.rules.proofs.Frames.{In, idled_same, idled_kept, marked_rest, over_same}
 use Rattle.rules.proofs.FlatRuns.{same_marks}
 use Rattle.rules.proofs.Positions.{idle_over}
 use Rattle.rules.proofs.Table.{sound}
@@ -24,9 +24,8 @@ use Rattle.rules.proofs.Stays.{marks_stay_legal}
 use Rattle.count.specs.declared.rows.Rows.{Rows}
 use Rattle.count.specs.View.{kinds_in, marks_in, signals_in, count_in, tree_in, Marked}
 use Rattle.count.specs.declared.answers.Phase.{Phase}
-use Rattle.count.specs.declared.answers.Phase.TheVariants.{Resting, Open, Over}
 use Rattle.count.specs.Phases.{is_open, is_over}
-use Rattle.count.specs.Calls.{phase_after}
+use Rattle.count.specs.Calls.{phase_after, phase_of}
 use Rattle.count.specs.Machine.{least_ready, applies, heard}
 use Rattle.rules.proofs.Inward.{own_rule}
 use Rattle.count.proofs.RowLists.{marks_length}
@@ -96,23 +95,24 @@ rule_same (leaf n k) ms e = leaf_same e (at ms n) k
 rule_same (one n k p) ms e = refl
 rule_same (two n k p q) ms e = two_same e (at ms n) k (over p ms)
 
+-- what is ready is a statement
+ready_in : (t : Tree) (ms : List Mark) (e : Signals) (k : ℕ) → ready t ms e k ≡ true → In t k
+ready_in (leaf n l) ms e k h = grind arith
+ready_in (one n l p) ms e k h = let f = ready_in p ms e k in grind arith
+ready_in (two n l p q) ms e k h = let f = ready_in p ms e k in let g = ready_in q ms e k in grind arith
+
 -- the rule of a ready statement applies
-pub ready_applies : (t : Rows) (e : Signals) (k : ℕ) (here : Bool) → k < count_in t → ready (tree_in t 0) (marks_in t) e k ≡ true → here ≡ heard (tree_in t k) e
+pub ready_applies : (t : Rows) (e : Signals) (k : ℕ) (here : Bool) → ready (tree_in t 0) (marks_in t) e k ≡ true → here ≡ heard (tree_in t k) e
     → applies (tree_in t k) (marks_in t) here ≡ true
-ready_applies t e k here l r h =
+ready_applies t e k here r h =
     let ks = kinds_in t in
     let T = table (signals_in t) ks (checked t) in
     let S = sound ks (signals_in t) T in
     ap (applies (tree_in t k) (marks_in t)) h ∙ sym (rule_same (tree_in t k) (marks_in t) e)
-    ∙ own_rule ks T.shaped T.once (marks_in t) e k T.some_row (S.whole k (let m = kinds_many t in omega arith)) r
+    ∙ own_rule ks T.shaped T.once (marks_in t) e k T.some_row (ready_in (tree_in t 0) (marks_in t) e k r) r
 
 pub never : (b : Bool) → b ≡ true → b ≡ false → ⊥
 never b p q = let z : ◌≡◌ {A = ℕ} 0 1 = cc in omega arith
-
-pub open_not_over : (p : Phase) → is_open p ≡ true → is_over p ≡ true → ⊥
-open_not_over Resting a b = never false a refl
-open_not_over Open a b = never false b refl
-open_not_over Over a b = never false a refl
 
 pub step_sound : (p : Phase) (t u : Rows) (e : Signals) (k : ℕ) → is_open p ≡ true → Keeps (is_open p) (kinds_in t) (marks_in t) → ready (tree_in t 0) (marks_in t) e k ≡ true
     → Marked t u (fire (tree_in t k) (marks_in t)) → Keeps (is_open p) (kinds_in u) (marks_in u)
@@ -135,25 +135,33 @@ over_ended (two n k p q) ms e g o =
         → (v ≡ false → ¬ (x ≡ true)) → (w ≡ false → ¬ (y ≡ true)) → (is_done m || two_over k x y) ≡ true → two_ended n m k (two_over k x y) q f g ms ≡ ms
     two_kept m k x y v w q f g ms n l a b o = grind arith
 
-pub after_not_open : (p : Phase) (b : Bool) → p ≡ phase_after b → is_open p ≡ false
-after_not_open p true e = ap is_open e
-after_not_open p false e = ap is_open e
+-- the phase after a close, by the status that it answers
+pub same_phase : (b : Bool) → phase_after b ≡ phase_of (status_of b)
+same_phase true = refl
+same_phase false = refl
 
-over_after : (p : Phase) (b : Bool) → p ≡ phase_after b → is_over p ≡ true → b ≡ true
-over_after p true e h = refl
-over_after p false e h = absurd (never (is_over p) h (ap is_over e))
+pub after_not_open : (b : Bool) → is_open (phase_of (status_of b)) ≡ false
+after_not_open true = refl
+after_not_open false = refl
 
-pub close_keeps : (p q : Phase) (b : Bool) (t u : Rows) (e : Signals) → p ≡ phase_after b → is_open q ≡ true → Keeps (is_open q) (kinds_in t) (marks_in t)
-    → Marked t u (ended (tree_in t 0) (marks_in t) e) → Keeps (is_open p) (kinds_in u) (marks_in u)
-close_keeps p q b t u e f o h m =
-    subst (λ b. Keeps b (kinds_in u) (marks_in u)) (sym (after_not_open p b f)) (end_keeps t u e (subst (λ b. Keeps b (kinds_in t) (marks_in t)) o h) m)
+over_after : (b : Bool) → is_over (phase_of (status_of b)) ≡ true → b ≡ true
+over_after true h = refl
+over_after false h = absurd (never false h refl)
 
-pub close_finished : (p q : Phase) (b : Bool) (t u : Rows) (e : Signals) → p ≡ phase_after b → b ≡ over (tree_in t 0) (marks_in t) → is_open q ≡ true → Keeps (is_open q) (kinds_in t) (marks_in t)
-    → Marked t u (ended (tree_in t 0) (marks_in t) e) → is_over p ≡ true → over (tree_in u 0) (marks_in u) ≡ true
-close_finished p q b t u e f w o h m z =
-    let ks = kinds_in t in
-    let T = table (signals_in t) ks (checked t) in
-    let L = legal t true (subst (λ b. Keeps b ks (marks_in t)) o h) in
-    let g = to_legal ks (signals_in t) T (marks_in t) (rows true ks (marks_in t) L) in
-    let v : over (tree_in t 0) (marks_in t) ≡ true = sym w ∙ over_after p b f z in
-    ap₂ (λ (ls : List Kind) (ms : List Mark). over (tree_at ls 0) ms) m.kinds (m.marks ∙ over_ended (tree_in t 0) (marks_in t) e g v) ∙ v
+module _ (p : Phase) (t u : Rows) (e : Signals) (o : is_open p ≡ true) (h : Keeps (is_open p) (kinds_in t) (marks_in t)) (m : Marked t u (ended (tree_in t 0) (marks_in t) e)) where
+  abbrev b : Bool
+  b = over (tree_in t 0) (marks_in t)
+
+  kept : Keeps true (kinds_in t) (marks_in t)
+  kept = subst (λ b. Keeps b (kinds_in t) (marks_in t)) o h
+
+  pub close_keeps : Keeps (is_open (phase_of (status_of b))) (kinds_in u) (marks_in u)
+  close_keeps = subst (λ c. Keeps c (kinds_in u) (marks_in u)) (sym (after_not_open b)) (end_keeps t u e kept m)
+
+  pub close_finished : is_over (phase_of (status_of b)) ≡ true → over (tree_in u 0) (marks_in u) ≡ true
+  close_finished z =
+      let ks = kinds_in t in
+      let T = table (signals_in t) ks (checked t) in
+      let g = to_legal ks (signals_in t) T (marks_in t) (rows true ks (marks_in t) (legal t true kept)) in
+      let v : over (tree_in t 0) (marks_in t) ≡ true = over_after b z in
+      ap₂ (λ (ls : List Kind) (ms : List Mark). over (tree_at ls 0) ms) m.kinds (m.marks ∙ over_ended (tree_in t 0) (marks_in t) e g v) ∙ v

@@ -9,14 +9,15 @@ use Rattle.routine.proofs.Searches.{Found, found, lowest_below}
 use Rattle.signals.specs.Sets.{word_set, empty}
 use Rattle.rules.specs.Rules.{over, ready}
 use Rattle.rules.specs.Legal.{Legal}
-use Rattle.rules.specs.Model.{Config, stepped, lowest_ready, turned, first_then, settled, path, enough, status_of, instant}
+use Rattle.rules.specs.Model.{Config, stepped, lowest_ready, turned, first_then, settled, path, enough, instant}
 use Rattle.rules.specs.Theorems.{Checked}
 use Rattle.rules.proofs.Promises.{instant_ends}
 use Rattle.count.specs.declared.answers.Phase.{Phase}
 use Rattle.count.specs.declared.answers.Phase.TheVariants.{Open}
 use Rattle.count.specs.State.{State}
-use Rattle.count.specs.Calls.{one_more, step_state, turn, run_of, begin_state, close_refusal, closing, close_state, react_closing, react_state, phase_after, phase_of, still_ready}
+use Rattle.count.specs.Calls.{one_more, step_state, turn, run_of, begin_state, close_refusal, close_state, react_state, still_ready}
 use Rattle.count.proofs.Least.{all_false}
+use Rattle.count.proofs.Sound.{same_phase}
 
 abbrev at : State → Config
 at s = (s.marks, s.present)
@@ -87,10 +88,6 @@ run_is ks (suc f) s = go (lowest_ready ks (at s)) refl (run_is ks f)
     go None e ih =
         ap (λ (c : Config). record { phase = s.phase; closed = s.closed; steps = s.steps; marks = c.0; present = c.1 }) (sym (settled_stays ks f (at s) e))
 
-same_phase : (b : Bool) → phase_after b ≡ phase_of (status_of b)
-same_phase true = refl
-same_phase false = refl
-
 -- an instant by the lowest ready first, and then the close, is the model's
 module _ (gs : List SignalKind) (ks : List Kind) (C : Checked gs ks) (few : length ks ≤ 256) (s : State) (word : ℕ) (L : Legal true ks s.marks) where
   abbrev c₀ : Config
@@ -122,9 +119,6 @@ module _ (gs : List SignalKind) (ks : List Kind) (C : Checked gs ks) (few : leng
       not_true : (b : Bool) → (b ≡ true → ⊥) → b ≡ false
       not_true true h = absurd (h refl)
       not_true false h = refl
-
-  pub answers : closing gs ks final ≡ react_closing gs ks s word
-  answers = refl
 
   pub leaves : close_state ks final ≡ react_state gs ks s word
   leaves =

@@ -21,6 +21,11 @@ module _ {B : Type 0} {G : Ghosts B} where
   abbrev pub state_of : (B → List Bool) → Count B G → State
   state_of present c = record { phase = c.phase; closed = c.closed; steps = c.steps; marks = marks_in c.rows; present = present c.board }
 
+  -- d has the routine of c
+  pub record SameRoutine (c d : Count B G) : Type 0 where
+    pub kinds : kinds_of d ≡ kinds_of c
+    pub signals : signals_of d ≡ signals_of c
+
   -- a call on c that answers r and leaves d: refused for a reason, with c as it was, board included; or else it answers x
   -- and leaves the state t
   pub record Does {X : Type 0} (present : B → List Bool) (c d : Count B G) (r : Result X Refusal) (why : Option Refusal) (x : X) (t : State) : Type 0 where

@@ -4,3 +4,4 @@ pub mod Machine
 pub mod State
 pub mod Calls
 pub mod CountView
+pub mod Texts

@@ -10,8 +10,9 @@ use crate::rows::Rows;
 use signals::Board;
 
 // A routine at work: its statements with their marks, and the board on which its signals are.
-// Its marks are legal, and in phase over statement 0 is over.
-#[derive(Drop)]
+// Its marks are legal, and in phase over statement 0 is over. No `impl Model`: it would hide the board, which a refused
+// call leaves as it was, and the steps stand beside the phase, since they are asked for in each (0 outside an instant).
+#[derive(Debug, Drop)]
 pub struct Count<B: Board> {
     pub(crate) rows: Rows,
     pub(crate) board: B,

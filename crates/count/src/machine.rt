@@ -1,9 +1,9 @@
-ghost use Rattle.std.specs.Prelude.{◌≡◌, ℕ, ◌<◌, ◌≤◌, true, false, cond, length, vec_len, slice_index_or, slice_set};
+ghost use Rattle.std.specs.Prelude.{◌≡◌, ◌<◌, true, length, slice_index_or, slice_set};
 ghost use Rattle.routine.specs.Kinds.{shape, kind_at};
-ghost use Rattle.routine.specs.Tree.{node, tree_at};
+ghost use Rattle.routine.specs.Tree.{node};
 ghost use Rattle.routine.specs.View.{PartsRise};
-ghost use Rattle.rules.specs.Rules.{over, begun, idled, rule, fire, ended};
-ghost use Rattle.count.specs.Machine.{applies, heard, least_ready};
+ghost use Rattle.rules.specs.Rules.{over, begun, idled, fire, ended};
+ghost use Rattle.count.specs.Machine.{applies};
 ghost use Rattle.count.specs.View.{kinds_in, marks_in, count_in, tree_in, Marked};
 
 use crate::rows::Rows;
@@ -11,194 +11,138 @@ use routine::{Kind, Mark};
 
 impl Rows {
     fn put(&mut self, i: usize, mark: Mark)
-        requires { i < count_in self.old }
         ensures { Marked self.old self.new (slice_set (marks_in self.old) i mark) }
     {
-        let row = &mut self.routine.table.statements[i];
-        row.set_mark(mark);
-    }
-
-    pub(crate) fn len(&self) -> usize
-        ensures rows { result ≡ count_in self.now }
-        ensures listed { result ≡ length (kinds_in self.now) }
-    {
-        self.routine.table.statements.len()
+        if let Some(row) = self.routine.table.statements.get_mut(i) {
+            row.set_mark(mark);
+        }
     }
 
     // Statement i, one level of its tree, and where its parts lie.
     pub(crate) fn kind(&self, i: usize) -> Kind
-        requires { i < count_in self.now }
         ensures value { result ≡ kind_at (kinds_in self.now) i }
         ensures rise { PartsRise (count_in self.now) i (shape result) }
         ensures level { tree_in self.now i ≡ node i (shape result) (tree_in self.now) }
     {
-        match self.routine.kind(i) {
-            Some(kind) => kind,
-            None => Kind::Nothing,
-        }
+        self.routine.table.kind(i)
     }
 
     pub(crate) fn mark(&self, i: usize) -> Mark
-        requires { i < count_in self.now }
         ensures { result ≡ slice_index_or (marks_in self.now) i Mark.Idle }
     {
-        self.routine.table.statements[i].mark
+        self.routine
+            .table
+            .statements
+            .get(i)
+            .map_or(Mark::Idle, |row| row.mark)
     }
 
     // Is statement i over?
     pub(crate) fn over(&self, i: usize) -> bool
-        requires { i < count_in self.now }
         ensures { result ≡ over (tree_in self.now i) (marks_in self.now) }
     {
-        let done = matches!(self.mark(i), Mark::Done);
-        match self.kind(i) {
-            Kind::Sequence { first: _, second } => done || self.over(second as usize),
+        let kind = self.kind(i);
+        if self.mark(i) == Mark::Done {
+            return true;
+        }
+        match kind {
+            Kind::Sequence { second, .. } => self.over(usize::from(second)),
             Kind::Parallel { first, second } => {
-                done || (self.over(first as usize) && self.over(second as usize))
+                self.over(usize::from(first)) && self.over(usize::from(second))
             }
-            Kind::When {
-                signal: _,
-                first,
-                second,
-            } => { done || self.over(first as usize) || self.over(second as usize) }
-            _ => done,
+            Kind::When { first, second, .. } => {
+                self.over(usize::from(first)) || self.over(usize::from(second))
+            }
+            _ => false,
         }
     }
 
     // Statement i and everything inside it gets idle.
     pub(crate) fn idle(&mut self, i: usize)
-        requires { i < count_in self.old }
         ensures { Marked self.old self.new (idled (tree_in self.old i) (marks_in self.old)) }
     {
         let kind = self.kind(i);
         self.put(i, Mark::Idle);
         match kind {
-            Kind::Nothing | Kind::Stop | Kind::Emit { signal: _ } | Kind::Wait { signal: _ } => {}
-            Kind::Loop { first }
-            | Kind::Kill { signal: _, first }
-            | Kind::Local { signal: _, first } => { self.idle(first as usize) }
+            Kind::Nothing | Kind::Stop | Kind::Emit { .. } | Kind::Wait { .. } => {}
+            Kind::Loop { first } | Kind::Kill { first, .. } | Kind::Local { first, .. } => {
+                self.idle(usize::from(first))
+            }
             Kind::Sequence { first, second }
             | Kind::Parallel { first, second }
-            | Kind::When {
-                signal: _,
-                first,
-                second,
-            } => {
-                self.idle(first as usize);
-                self.idle(second as usize)
+            | Kind::When { first, second, .. } => {
+                self.idle(usize::from(first));
+                self.idle(usize::from(second))
             }
         }
     }
 
     // Begins statement i.
     pub(crate) fn begin(&mut self, i: usize)
-        requires { i < count_in self.old }
         ensures { Marked self.old self.new (begun (tree_in self.old i) (marks_in self.old)) }
     {
         match self.kind(i) {
             Kind::Nothing => self.put(i, Mark::Done),
             Kind::Stop
-            | Kind::Emit { signal: _ }
-            | Kind::Wait { signal: _ }
-            | Kind::Loop { first: _ }
-            | Kind::When {
-                signal: _,
-                first: _,
-                second: _,
-            } => self.put(i, Mark::Waiting),
-            Kind::Sequence { first, second: _ } | Kind::Kill { signal: _, first } => {
+            | Kind::Emit { .. }
+            | Kind::Wait { .. }
+            | Kind::Loop { .. }
+            | Kind::When { .. } => self.put(i, Mark::Waiting),
+            Kind::Sequence { first, .. } | Kind::Kill { first, .. } => {
                 self.put(i, Mark::UnderWay);
-                self.begin(first as usize)
+                self.begin(usize::from(first))
             }
             Kind::Parallel { first, second } => {
                 self.put(i, Mark::UnderWay);
-                self.begin(first as usize);
-                self.begin(second as usize)
+                self.begin(usize::from(first));
+                self.begin(usize::from(second))
             }
-            Kind::Local { signal: _, first } => {
+            Kind::Local { first, .. } => {
                 self.put(i, Mark::Waiting);
-                self.begin(first as usize)
+                self.begin(usize::from(first))
             }
         }
     }
 
     // Does the rule of statement i apply, where `here` says whether its signal is present?
     pub(crate) fn applies(&self, i: usize, here: bool) -> bool
-        requires { i < count_in self.now }
         ensures { result ≡ applies (tree_in self.now i) (marks_in self.now) here }
     {
-        let kind = self.kind(i);
-        match (kind, self.mark(i)) {
-            (Kind::Emit { signal: _ }, Mark::Waiting)
-            | (Kind::Loop { first: _ }, Mark::Waiting)
-            | (
-                Kind::Local {
-                    signal: _,
-                    first: _,
-                },
-                Mark::Waiting,
-            ) => true,
-            (Kind::Wait { signal: _ }, Mark::Waiting)
-            | (
-                Kind::When {
-                    signal: _,
-                    first: _,
-                    second: _,
-                },
-                Mark::Waiting,
-            ) => here,
-            (Kind::Sequence { first, second: _ }, _)
-            | (Kind::Kill { signal: _, first }, _)
-            | (Kind::Loop { first }, _)
-            | (Kind::Local { signal: _, first }, Mark::UnderWay) => self.over(first as usize),
+        match (self.kind(i), self.mark(i)) {
+            (Kind::Emit { .. } | Kind::Loop { .. } | Kind::Local { .. }, Mark::Waiting) => true,
+            (Kind::Wait { .. } | Kind::When { .. }, Mark::Waiting) => here,
+            (Kind::Sequence { first, .. } | Kind::Kill { first, .. } | Kind::Loop { first }, _)
+            | (Kind::Local { first, .. }, Mark::UnderWay) => self.over(usize::from(first)),
             _ => false,
         }
     }
 
     // The step of statement i, whose rule applies.
     pub(crate) fn fire(&mut self, i: usize, here: bool)
-        requires within { i < count_in self.old }
-        requires ready { applies (tree_in self.old i) (marks_in self.old) here ≡ true }
+        requires { applies (tree_in self.old i) (marks_in self.old) here ≡ true }
         ensures { Marked self.old self.new (fire (tree_in self.old i) (marks_in self.old)) }
     {
-        let kind = self.kind(i);
-        let mark = self.mark(i);
-        match (kind, mark, here) {
-            (Kind::Emit { signal: _ }, Mark::Waiting, _)
-            | (Kind::Wait { signal: _ }, Mark::Waiting, true) => { self.put(i, Mark::Done) }
-            (
-                Kind::When {
-                    signal: _,
-                    first,
-                    second: _,
-                },
-                Mark::Waiting,
-                true,
-            )
+        match (self.kind(i), self.mark(i), here) {
+            (Kind::Emit { .. }, Mark::Waiting, _) | (Kind::Wait { .. }, Mark::Waiting, true) => {
+                self.put(i, Mark::Done)
+            }
+            (Kind::When { first, .. }, Mark::Waiting, true)
             | (Kind::Loop { first }, Mark::Waiting, _) => {
                 self.put(i, Mark::UnderWay);
-                self.begin(first as usize)
+                self.begin(usize::from(first))
             }
             (Kind::Loop { first }, _, _) => {
                 self.put(i, Mark::Waiting);
-                self.idle(first as usize)
+                self.idle(usize::from(first))
             }
             (Kind::Sequence { first, second }, _, _) => {
-                self.idle(first as usize);
-                self.begin(second as usize)
+                self.idle(usize::from(first));
+                self.begin(usize::from(second))
             }
-            (
-                Kind::Local {
-                    signal: _,
-                    first: _,
-                },
-                Mark::Waiting,
-                _,
-            ) => self.put(i, Mark::UnderWay),
-            (Kind::Kill { signal: _, first }, _, _)
-            | (Kind::Local { signal: _, first }, Mark::UnderWay, _) => {
+            (Kind::Local { .. }, Mark::Waiting, _) => self.put(i, Mark::UnderWay),
+            (Kind::Kill { first, .. }, _, _) | (Kind::Local { first, .. }, Mark::UnderWay, _) => {
                 self.put(i, Mark::Done);
-                self.idle(first as usize)
+                self.idle(usize::from(first))
             }
             _ => {}
         }
@@ -206,85 +150,37 @@ impl Rows {
 
     // The end of the instant, down from statement i; `present` has the present signals.
     pub(crate) fn end(&mut self, i: usize, present: &[bool])
-        requires { i < count_in self.old }
         ensures { Marked self.old self.new (ended (tree_in self.old i) (marks_in self.old) present.now) }
     {
-        let kind = self.kind(i);
-        let mark = self.mark(i);
-        match kind {
-            Kind::Nothing | Kind::Emit { signal: _ } | Kind::Wait { signal: _ } => {}
-            Kind::Stop => {
-                if let Mark::Waiting = mark {
-                    self.put(i, Mark::Done)
+        match (self.kind(i), self.mark(i)) {
+            (Kind::Stop, Mark::Waiting) => self.put(i, Mark::Done),
+            (Kind::Loop { first }, Mark::UnderWay) => self.end(usize::from(first), present),
+            (Kind::Kill { signal, first }, Mark::UnderWay) => {
+                if present.get(usize::from(signal)).copied().unwrap_or(false) {
+                    self.put(i, Mark::Done);
+                    self.idle(usize::from(first))
+                } else {
+                    self.end(usize::from(first), present)
                 }
             }
-            Kind::Loop { first } => {
-                if let Mark::UnderWay = mark {
-                    self.end(first as usize, present)
-                }
+            (Kind::Local { first, .. }, Mark::Waiting | Mark::UnderWay) => {
+                self.put(i, Mark::Waiting);
+                self.end(usize::from(first), present)
             }
-            Kind::Kill { signal, first } => {
-                if let Mark::UnderWay = mark {
-                    if is_on(present, signal as usize) {
-                        self.put(i, Mark::Done);
-                        self.idle(first as usize)
-                    } else {
-                        self.end(first as usize, present)
-                    }
-                }
+            (Kind::When { second, .. }, Mark::Waiting) => {
+                self.put(i, Mark::UnderWay);
+                self.begin(usize::from(second))
             }
-            Kind::Local { signal: _, first } => {
-                if let Mark::Waiting | Mark::UnderWay = mark {
-                    self.put(i, Mark::Waiting);
-                    self.end(first as usize, present)
-                }
+            (
+                Kind::Sequence { first, second }
+                | Kind::Parallel { first, second }
+                | Kind::When { first, second, .. },
+                Mark::UnderWay,
+            ) if !self.over(i) => {
+                self.end(usize::from(first), present);
+                self.end(usize::from(second), present)
             }
-            Kind::Sequence { first, second } => {
-                let over = self.over(second as usize);
-                if let Mark::UnderWay = mark
-                    && !over
-                {
-                    self.end(first as usize, present);
-                    self.end(second as usize, present)
-                }
-            }
-            Kind::Parallel { first, second } => {
-                let over = self.over(first as usize) && self.over(second as usize);
-                if let Mark::UnderWay = mark
-                    && !over
-                {
-                    self.end(first as usize, present);
-                    self.end(second as usize, present)
-                }
-            }
-            Kind::When {
-                signal: _,
-                first,
-                second,
-            } => match mark {
-                Mark::Waiting => {
-                    self.put(i, Mark::UnderWay);
-                    self.begin(second as usize)
-                }
-                Mark::UnderWay => {
-                    let over = self.over(first as usize) || self.over(second as usize);
-                    if !over {
-                        self.end(first as usize, present);
-                        self.end(second as usize, present)
-                    }
-                }
-                Mark::Idle | Mark::Done => {}
-            },
+            _ => {}
         }
-    }
-}
-
-fn is_on(present: &[bool], signal: usize) -> bool
-    ensures { result ≡ slice_index_or present.now signal false }
-{
-    if signal < present.len() {
-        present[signal]
-    } else {
-        false
     }
 }

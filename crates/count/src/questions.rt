@@ -1,4 +1,4 @@
-ghost use Rattle.std.specs.Prelude.{◌≡◌, ℕ, ◌<◌, ◌≤◌, true, false, length, if◌then◌else◌, Some, None, nat_lt, slice_index_or};
+ghost use Rattle.std.specs.Prelude.{◌≡◌, false, length, if◌then◌else◌, Some, None, nat_lt, slice_index_or};
 ghost use Rattle.routine.specs.Search.{lowest};
 ghost use Rattle.routine.specs.Tree.{tree_at};
 ghost use Rattle.rules.specs.Rules.{ready, at};
@@ -6,7 +6,6 @@ ghost use Rattle.count.specs.CountView.{kinds_of, signals_of, state_of};
 
 use crate::answers::Phase;
 use crate::counts::Count;
-use crate::ready;
 use routine::Mark;
 use signals::Board;
 
@@ -36,7 +35,7 @@ impl<B: Board> Count<B> {
     pub fn statements(&self) -> usize
         ensures { result ≡ length (kinds_of self.now) }
     {
-        self.rows.len()
+        self.rows.routine.count()
     }
 
     // How many signals the routine has.
@@ -50,25 +49,21 @@ impl<B: Board> Count<B> {
     pub fn mark(&self, i: usize) -> Option<Mark>
         ensures { result ≡ (if nat_lt i (length (kinds_of self.now)) then Some (at (state_of B.present self.now).marks i) else None) }
     {
-        if i < self.rows.len() {
-            Some(self.rows.mark(i))
-        } else {
-            None
-        }
+        (i < self.rows.routine.count()).then(|| self.rows.mark(i))
     }
 
     // Would the rules let statement k be stepped, if the instant is open?
     pub fn is_ready(&self, k: usize) -> bool
         ensures { result ≡ ready (tree_at (kinds_of self.now) 0) (state_of B.present self.now).marks (state_of B.present self.now).present k }
     {
-        ready::is_ready(&self.rows, &self.board, 0, k)
+        self.is_ready_inside(0, k)
     }
 
     // The lowest such statement.
     pub fn lowest_ready(&self) -> Option<usize>
         ensures { result ≡ lowest (ready (tree_at (kinds_of self.now) 0) (state_of B.present self.now).marks (state_of B.present self.now).present) (length (kinds_of self.now)) }
     {
-        self.lowest()
+        self.least_ready(0)
     }
 
     // Is the signal present?

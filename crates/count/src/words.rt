@@ -1,4 +1,4 @@
-ghost use Rattle.std.specs.Prelude.{◌≡◌, ℕ, ◌<◌};
+ghost use Rattle.std.specs.Prelude.{◌≡◌, ◌<◌};
 ghost use Rattle.signals.specs.Sets.{word_set};
 ghost use Rattle.count.specs.Calls.{bit};
 
@@ -17,6 +17,7 @@ pub(crate) fn show<B: Board>(board: &mut B, word: u64)
     ensures { B.present board.new ≡ word_set word }
 {
     board.wipe();
+    // No `filter` before the loop: in generic code the prover refuses the iterator that it makes.
     for s in 0..64 {
         if has_bit(word, s) {
             board.raise(s);
@@ -28,9 +29,5 @@ pub(crate) fn show<B: Board>(board: &mut B, word: u64)
 pub(crate) fn snapshot<B: Board>(board: &B) -> [bool; 64]
     ensures { result ≡ B.present board.now }
 {
-    let mut shown = [false; 64];
-    for s in 0..64u8 {
-        shown[s as usize] = board.ask(s);
-    }
-    shown
+    std::array::from_fn(|s| board.ask(s as u8))
 }

@@ -1,11 +1,11 @@
 -- entries read one after another
 use Rattle.std.proofs.Common.{◌≡◌, ℕ, zero, suc, ◌+◌, ◌-◌, ◌*◌, ◌<◌, ◌≤◌, Bool, true, false, cond, List, [], ◌∷◌, ◌++◌, length, get_or, take, drop, Some, None, Ok, Err, Option, Result, sym, refl, ap, ◌∙◌, subst, arith}
-use Rattle.std.proofs.lemmas.List.{append_assoc, at_drop_more, take_rest}
+use Rattle.std.proofs.lemmas.List.{append_assoc, take_rest}
 use Rattle.routine.specs.declared.kinds.SignalKind.{SignalKind}
 use Rattle.routine.specs.declared.kinds.Kind.{Kind}
 use Rattle.routine.specs.declared.kinds.Statement.{Statement}
 use Rattle.routine.specs.declared.refusals.Refusal.{Refusal}
-use Rattle.routine.specs.declared.refusals.Refusal.TheVariants.{SignalKind as BadSignalKind, Record}
+use Rattle.routine.specs.declared.refusals.Refusal.TheVariants.{Record}
 use Rattle.routine.specs.Kinds.{fresh, kinds, kind_at}
 use Rattle.routine.specs.Layout.{onto, signal_kind, spelled, fits, fitting, signals_from, records_from}
 
@@ -23,25 +23,6 @@ more : {A : Type 0} (ms ns : List A) (x : A) (o : Option A) (r d all : Result (L
     → o ≡ Some x → ns ≡ ms ++ x ∷ [] → d ≡ onto e o r → after ms d ≡ all → after ns r ≡ all
 more ms ns x o r d all e says n step h =
     ap (λ k. after k r) n ∙ one_on ms x r e ∙ ap (λ p. after ms (onto e p r)) (sym says) ∙ ap (after ms) (sym step) ∙ h
-
--- an entry that says nothing
-less : {A : Type 0} (ms : List A) (o : Option A) (r d all : Result (List A) Refusal) (e : Refusal)
-    → o ≡ None → d ≡ onto e o r → after ms d ≡ all → all ≡ Err e
-less ms o r d all e says step h =
-    sym h ∙ ap (after ms) (step ∙ ap (λ p. onto e p r) says)
-
-module _ (bytes : List ℕ) (i : ℕ) (l : i < length bytes) where
-  signals_step : signals_from i (drop i bytes) ≡ onto (BadSignalKind i) (signal_kind (get_or bytes i 0)) (signals_from (i + 1) (drop (i + 1) bytes))
-  signals_step = at_drop_more (signals_from i) bytes i 0 l
-
-  pub signals_more : (ms ns : List SignalKind) (k : SignalKind) (all : Result (List SignalKind) Refusal)
-      → Some k ≡ signal_kind (get_or bytes i 0) → ns ≡ ms ++ k ∷ [] → after ms (signals_from i (drop i bytes)) ≡ all
-      → after ns (signals_from (i + 1) (drop (i + 1) bytes)) ≡ all
-  signals_more ms ns k all says n h = more ms ns k _ _ _ all _ (sym says) n signals_step h
-
-  pub signals_less : (ms : List SignalKind) (all : Result (List SignalKind) Refusal)
-      → None ≡ signal_kind (get_or bytes i 0) → after ms (signals_from i (drop i bytes)) ≡ all → all ≡ Err (BadSignalKind i)
-  signals_less ms all says h = less ms _ _ _ all _ (sym says) signals_step h
 
 module _ (g n i : ℕ) where
   records_step : (bytes : List ℕ) → 4 ≤ length bytes

@@ -1,11 +1,14 @@
 -- a table's rows, as a list of statements
-use Rattle.std.proofs.Common.{◌≡◌, ℕ, ◌+◌, ◌<◌, ◌≤◌, cond, List, length, get_or, drop, sym, ap, ◌∙◌, arith}
-use Rattle.std.proofs.lemmas.List.{get_or-map, length-map, at_drop_more, at_drop_all}
+use Rattle.std.proofs.Common.{◌≡◌, ℕ, ◌+◌, ◌<◌, ◌≤◌, cond, sum_by, take, take_all, zero, suc, refl, List, [], ◌∷◌, length, get_or, sym, ap, ◌∙◌, arith}
+use Rattle.std.proofs.lemmas.List.{get_or-map, length-map}
+use Rattle.std.specs.List.{count_by}
+use Rattle.std.proofs.lemmas.List.Sums.{sum_by_more, sum_by-cons}
+use Rattle.routine.specs.declared.kinds.Kind.{Kind}
 use Rattle.routine.specs.declared.kinds.Kind.TheVariants.{Nothing}
 use Rattle.routine.specs.declared.kinds.SignalKind.{SignalKind}
 use Rattle.routine.specs.declared.kinds.Statement.{Statement}
-use Rattle.routine.specs.Kinds.{kinds, kind_at}
-use Rattle.routine.specs.Meaning.{same, how_many}
+use Rattle.routine.specs.Kinds.{kinds, kind_at, shape, fresh}
+use Rattle.routine.specs.Meaning.{names, named, same, how_many}
 
 pub kind_read : (ss : List Statement) (i : ℕ) (x : Statement) → i < length ss → x ≡ get_or ss i x → x.kind ≡ kind_at (kinds ss) i
 kind_read ss i x l e = ap (λ (y : Statement). y.kind) e ∙ sym (get_or-map (λ (y : Statement). y.kind) ss i x Nothing l)
@@ -13,18 +16,25 @@ kind_read ss i x l e = ap (λ (y : Statement). y.kind) e ∙ sym (get_or-map (λ
 pub kinds_length : (ss : List Statement) (n : ℕ) → n ≡ length ss → length (kinds ss) ≡ n
 kinds_length ss n e = length-map ss (λ (y : Statement). y.kind) ∙ sym e
 
--- signals of one kind, counted one after another
-module _ (k : SignalKind) (xs ys : List SignalKind) (e : ys ≡ xs) (i m : ℕ) where
-  pub many_more : (d : SignalKind) (t all : ℕ) → i < length ys → t ≡ cond (same (get_or ys i d) k) 1 0
-      → m + how_many k (drop i xs) ≡ all → m + t + how_many k (drop (i + 1) xs) ≡ all
-  many_more d t all l o h =
-      let l' : i < length xs = rw e at l in
-      let f : how_many k (drop i xs) ≡ cond (same (get_or xs i d) k) 1 0 + how_many k (drop (i + 1) xs) = at_drop_more (how_many k) xs i d l' in
-      let g : t ≡ cond (same (get_or xs i d) k) 1 0 = rw e at o in
-      omega arith
+-- signals of one kind, counted
+pub many_counted : (k : SignalKind) (gs : List SignalKind) → count_by (λ g. same g k) gs ≡ how_many k gs
+many_counted k [] = refl
+many_counted k (g ∷ gs) = sum_by-cons (λ x. cond (same x k) 1 0) g gs ∙ ap (λ (n : ℕ). cond (same g k) 1 0 + n) (many_counted k gs)
 
-  pub many_all : (all : ℕ) → length ys ≤ i → m + how_many k (drop i xs) ≡ all → m ≡ all
-  many_all all l h =
-      let l' : length xs ≤ i = rw e at l in
-      let f : how_many k (drop i xs) ≡ 0 = at_drop_all (how_many k) xs i l' in
-      omega arith
+-- how often a statement is named, summed over the rows
+module _ (ss : List Statement) (a : ℕ) where
+  abbrev by_row : Statement → ℕ
+  by_row x = names (shape x.kind) a
+
+  summed : (n : ℕ) → n ≤ length ss → sum_by by_row (take n ss) ≡ named (kinds ss) n a
+  summed zero l = refl
+  summed (suc n) l =
+      let e : suc n ≡ n + 1 = omega arith in
+      let k : kind_at (kinds ss) n ≡ (get_or ss n (fresh Nothing)).kind = get_or-map (λ (y : Statement). y.kind) ss n (fresh Nothing) Nothing l in
+      let h = summed n (omega arith) in
+      let f = ap (λ (x : Kind). names (shape x) a) k in
+      rw e (sum_by_more by_row ss n (fresh Nothing) l ∙ omega (arith, f, h))
+
+  pub named_sum : sum_by by_row ss ≡ named (kinds ss) (length (kinds ss)) a
+  named_sum =
+      sym (ap (sum_by by_row) (take_all (length ss) ss (omega arith))) ∙ summed (length ss) (omega arith) ∙ ap (λ (n : ℕ). named (kinds ss) n a) (sym (length-map ss (λ (y : Statement). y.kind)))

@@ -1,10 +1,12 @@
 -- the form of a table: which bytes are one, and what they say
-use Rattle.std.specs.Prelude.{◌≡◌, ℕ, ◌+◌, ◌*◌, ◌<◌, ◌≤◌, Bool, true, false, cond, ◌&&◌, List, [], ◌∷◌, length, take, drop, Some, None, Ok, Err, Option, Result, ◌==◌, nat_le, nat_lt, slice_index}
+use Rattle.std.specs.Prelude.{◌≡◌, ℕ, ◌+◌, ◌*◌, ◌<◌, Bool, true, cond, ◌&&◌, List, [], ◌∷◌, length, take, drop, Some, None, Ok, Err, Option, Result, MatchResult, ◌==◌, nat_le, nat_lt, slice_index}
 use Rattle.routine.specs.declared.kinds.SignalKind.{SignalKind}
 use Rattle.routine.specs.declared.kinds.SignalKind.TheVariants.{Input, Output, Local as Own}
 use Rattle.routine.specs.declared.kinds.Kind.{Kind}
 use Rattle.routine.specs.declared.kinds.Kind.TheVariants.{Nothing, Stop, Emit, Wait, Sequence, Parallel, Loop, When, Kill, Local}
 use Rattle.routine.specs.declared.kinds.Statement.{Statement}
+use Rattle.routine.specs.declared.kinds.UnknownSignal.{UnknownSignal}
+use Rattle.routine.specs.declared.kinds.UnknownStatement.{UnknownStatement}
 use Rattle.routine.specs.declared.refusals.Refusal.{Refusal}
 use Rattle.routine.specs.declared.refusals.Refusal.TheVariants.{Form, SignalKind as BadSignalKind, Record}
 use Rattle.routine.specs.Kinds.{fresh, kind_at}
@@ -31,13 +33,6 @@ headed bytes =
     && (nat_le (statement_count bytes) 256
     && length bytes == 8 + signal_count bytes + 4 * statement_count bytes)))))
 
--- how many there are of each, where the contents and the length are right
-abbrev pub Headed : List ℕ → Option (ℕ × ℕ) → Type 0
-Headed bytes None = headed bytes ≡ false
-Headed bytes (Some p) =
-    (headed bytes ≡ true) × (p.0 ≡ signal_count bytes) × (p.1 ≡ statement_count bytes)
-    × (length bytes ≡ 8 + p.0 + 4 * p.1) × (p.0 ≤ 64) × (1 ≤ p.1) × (p.1 ≤ 256)
-
 -- what a byte says of a signal
 abbrev pub signal_kind : ℕ → Option SignalKind
 signal_kind b = cond (b == 0) (Some Input) (cond (b == 1) (Some Output) (cond (b == 2) (Some Own) None))
@@ -55,6 +50,16 @@ spelled k s a b =
     (cond (k == 7) (Some (When s a b))
     (cond (k == 8 && b == 0) (Some (Kill s a))
     (cond (k == 9 && b == 0) (Some (Local s a)) None)))))))))
+
+-- what a conversion answers: the signal kind or the statement that the bytes say, or the bytes that say none
+abbrev pub SaysSignal : ℕ → Result SignalKind UnknownSignal → Type 0
+SaysSignal b r = MatchResult r (λ k. signal_kind b ≡ Some k) (λ e. (signal_kind b ≡ None) × (e.0 ≡ b))
+
+abbrev pub said_by : List ℕ → Option Kind
+said_by r = spelled (slice_index r 0) (slice_index r 1) (slice_index r 2) (slice_index r 3)
+
+abbrev pub SaysStatement : List ℕ → Result Kind UnknownStatement → Type 0
+SaysStatement bs r = MatchResult r (λ k. said_by bs ≡ Some k) (λ e. (said_by bs ≡ None) × (e.0 ≡ bs))
 
 -- a can be a part of statement i, of n
 abbrev pub rises : ℕ → ℕ → ℕ → Bool
@@ -118,9 +123,3 @@ read_of bytes = cond (headed bytes) (with_signals bytes (signals_from 0 (signal_
 -- each statement's fields fit: what the form asks of records that are read
 abbrev pub Formed : ℕ → List Kind → Type 0
 Formed g ks = (i : ℕ) → i < length ks → fits g (length ks) i (kind_at ks i) ≡ true
-
--- two answers as one: the first refusal of the two, or both values
-abbrev pub both_of : {A B : Type 0} → Result A Refusal → Result B Refusal → Result (A × B) Refusal
-both_of (Err e) y = Err e
-both_of (Ok a) (Err e) = Err e
-both_of (Ok a) (Ok b) = Ok (a, b)

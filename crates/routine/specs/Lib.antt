@@ -4,5 +4,6 @@ pub mod Kinds
 pub mod Texts
 pub mod Tree
 pub mod Layout
+pub mod Header
 pub mod Meaning
 pub mod View

@@ -1,5 +1,5 @@
 -- what is written of statements and refusals
-use Rattle.std.specs.Prelude.{ℕ, List, ◌++◌, Some, None, codes, decimal, Option}
+use Rattle.std.specs.Prelude.{ℕ, List, [], ◌∷◌, ◌++◌, Some, None, codes, decimal, slice_index, Option}
 use Rattle.routine.specs.declared.kinds.Kind.{Kind}
 use Rattle.routine.specs.declared.kinds.Kind.TheVariants.{Nothing, Stop, Emit, Wait, Sequence, Parallel, Loop, When, Kill, Local}
 use Rattle.routine.specs.declared.refusals.Refusal.{Refusal}
@@ -7,6 +7,9 @@ use Rattle.routine.specs.declared.refusals.Refusal.TheVariants.{Form, SignalKind
 use Rattle.routine.specs.declared.refusals.Refusal.TheVariants.{AlreadyOpen, AlreadyOver, NoInstantLeft, NotInput, NotOpenToStep, NoSuchStatement, NotReady, NotOpenToClose, StillReady}
 use Rattle.routine.specs.declared.refusals.Refusal.TheVariants.{RecordForm, RecordHead, RecordMarks, Memory}
 use Rattle.routine.specs.Refusals.{place_of}
+
+abbrev pub line_end : List ℕ
+line_end = 10 ∷ []
 
 -- a statement's name and its signal
 abbrev pub kind_text : Kind → List ℕ
@@ -74,3 +77,11 @@ about (Some subject) p words = subject ++ (codes " " ++ (decimal p ++ (codes ": 
 -- a refusal in plain words
 abbrev pub reason_text : Refusal → List ℕ
 reason_text e = about (subject_of e) (place_of e) (wording_of e)
+
+-- a byte that is no kind of signal, and a record that is no statement
+abbrev pub unknown_signal_text : ℕ → List ℕ
+unknown_signal_text b = codes "no kind of signal has the byte " ++ decimal b
+
+abbrev pub unknown_statement_text : List ℕ → List ℕ
+unknown_statement_text r =
+    codes "no statement is " ++ (decimal (slice_index r 0) ++ (codes " " ++ (decimal (slice_index r 1) ++ (codes " " ++ (decimal (slice_index r 2) ++ (codes " " ++ decimal (slice_index r 3)))))))

@@ -1,17 +1,15 @@
 -- what a table and a routine hold, as lists
-use Rattle.std.specs.Prelude.{◌≡◌, ℕ, ◌<◌, Bool, List, Some, None, Ok, Err, vec_items, vec_len, Option, Result}
+use Rattle.std.specs.Prelude.{◌≡◌, ℕ, ◌<◌, List, Some, None, Ok, Err, vec_items, vec_len, Option, Result}
 use Rattle.routine.specs.declared.kinds.SignalKind.{SignalKind}
 use Rattle.routine.specs.declared.kinds.Kind.{Kind}
 use Rattle.routine.specs.declared.kinds.Statement.{Statement}
 use Rattle.routine.specs.declared.refusals.Refusal.{Refusal}
 use Rattle.routine.specs.declared.tables.Table.{Table}
 use Rattle.routine.specs.declared.checked.Routine.{Routine}
-use Rattle.routine.specs.declared.checker.Test.{Test}
-use Rattle.routine.specs.declared.checker.Test.TheVariants.{Parts, SignalUse, Scope, EndlessLoop}
-use Rattle.routine.specs.Kinds.{kinds, kind_at, Shape, no_part, one_part, two_parts}
+use Rattle.routine.specs.Kinds.{kinds, Shape, no_part, one_part, two_parts}
 use Rattle.routine.specs.Tree.{Tree, tree_at}
 use Rattle.routine.specs.Layout.{read_of}
-use Rattle.routine.specs.Meaning.{stray, misuses, unscoped, endless, check_of}
+use Rattle.routine.specs.Meaning.{check_of}
 
 abbrev pub signals_of : Table → List SignalKind
 signals_of t = vec_items t.signals
@@ -41,13 +39,6 @@ abbrev pub PartsRise : ℕ → ℕ → Shape → Type 0
 PartsRise n i (no_part k) = Unit {0}
 PartsRise n i (one_part k a) = (i < a) × (a < n)
 PartsRise n i (two_parts k a b) = (i < a) × (a < n) × (i < b) × (b < n)
-
--- statement i fails the test
-abbrev pub fails : Table → Test → ℕ → Bool
-fails t Parts i = stray (kinds_of t) i
-fails t SignalUse i = misuses (signals_of t) (kind_at (kinds_of t) i)
-fails t Scope i = unscoped (signals_of t) (kinds_of t) i (kind_at (kinds_of t) i)
-fails t EndlessLoop i = endless (kinds_of t) (kind_at (kinds_of t) i)
 
 -- a table that is read is checked next
 abbrev pub judged : List SignalKind × List Statement → Option Refusal → Result (List SignalKind × List Statement) Refusal

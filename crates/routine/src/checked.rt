@@ -5,7 +5,7 @@ ghost use Rattle.routine.specs.Meaning.{passes};
 use crate::tables::Table;
 
 // A counting routine: a table that passed every test.
-#[derive(Drop)]
+#[derive(Debug, Drop)]
 pub struct Routine {
     pub table: Table,
     ghost passed: { passes table.signals.items (kinds table.statements.items) ≡ true },

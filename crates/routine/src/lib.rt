@@ -12,7 +12,7 @@ pub mod tables;
 
 pub use checked::Routine;
 pub use checker::check;
-pub use kinds::{Kind, Mark, SignalKind, Statement};
+pub use kinds::{Kind, Mark, SignalKind, Statement, UnknownSignal, UnknownStatement};
 pub use loader::load;
 pub use reader::read;
 pub use reasons::Reason;

@@ -7,19 +7,6 @@ ghost use Rattle.routine.specs.View.{signals_of, kinds_of, count_of, tree_of, Pa
 use crate::checked::Routine;
 use crate::kinds::{Kind, SignalKind};
 
-// 1 where the kinds are the same.
-fn tally(signal: SignalKind, kind: SignalKind) -> usize
-    ensures value { result ≡ (if same signal kind then 1 else 0) }
-    ensures few { result ≤ 1 }
-{
-    match (signal, kind) {
-        (SignalKind::Input, SignalKind::Input)
-        | (SignalKind::Output, SignalKind::Output)
-        | (SignalKind::Local, SignalKind::Local) => 1,
-        _ => 0,
-    }
-}
-
 impl Routine {
     // How many statements there are. Each is once in the routine's tree, however much deeper one looks.
     pub fn count(&self) -> usize
@@ -38,21 +25,17 @@ impl Routine {
         ensures rise { MatchOption result (count_of self.now.table ≤ i) (λ k. PartsRise (count_of self.now.table) i (shape k)) }
         ensures level { MatchOption result (count_of self.now.table ≤ i) (λ k. tree_at (kinds_of self.now.table) i ≡ node i (shape k) (tree_at (kinds_of self.now.table))) }
     {
-        if i < self.table.count() {
-            Some(self.table.kind(i))
-        } else {
-            None
-        }
+        (i < self.table.count()).then(|| self.table.kind(i))
     }
 
     // How many signals are of this kind.
     pub fn signals(&self, kind: SignalKind) -> usize
         ensures { result ≡ how_many kind (signals_of self.now.table) }
     {
-        let mut many = 0;
-        for signal in self.table.signals.iter() {
-            many += tally(*signal, kind);
-        }
-        many
+        self.table
+            .signals
+            .iter()
+            .filter(|&&signal| signal == kind)
+            .count()
     }
 }

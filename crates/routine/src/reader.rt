@@ -1,5 +1,5 @@
 ghost use Rattle.std.specs.Prelude.{◌≡◌, ℕ, ◌+◌, ◌*◌, ◌<◌, ◌≤◌, true, false, List, length, vec_items, vec_len};
-ghost use Rattle.routine.specs.Layout.{Headed, signal_kind, spelled, rises, fits, fitting, signals_from, records_from, read_of, both_of};
+ghost use Rattle.routine.specs.Layout.{rises, fits, signals_from, records_from, read_of};
 ghost use Rattle.routine.specs.Refusals.{Answers};
 ghost use Rattle.routine.specs.View.{content};
 
@@ -8,93 +8,75 @@ use crate::refusals::Refusal;
 use crate::tables::Table;
 use std::alloc::Global;
 
+// What the contents announce: how many signals and statements there are.
+#[derive(Clone, Copy, Debug, PartialEq, Eq)]
+struct Header {
+    signals: usize,
+    statements: usize,
+}
+
+impl Header {
+    ghost use Rattle.routine.specs.Header.{Headed};
+
+    // The header of a table's bytes, if the contents and the length are right.
+    fn read(bytes: &[u8]) -> Result<Header, Refusal>
+        ensures { Headed bytes.now result }
+    {
+        let [a, b, c, d, e, f, g, h, ..] = bytes else {
+            return Err(Refusal::Form);
+        };
+        let signals = word(*c, *d);
+        let statements = word(*g, *h);
+        let right = word(*a, *b) == 8
+            && signals <= 64
+            && word(*e, *f) == 8 + signals
+            && 1 <= statements
+            && statements <= 256
+            && bytes.len() == 8 + signals + 4 * statements;
+        let header = Header {
+            signals,
+            statements,
+        };
+        right.then_some(header).ok_or(Refusal::Form)
+    }
+
+    // Can it be a part of statement i?
+    fn rises(self, i: usize, part: u8) -> bool
+        ensures { result ≡ rises self.statements i part }
+    {
+        i < usize::from(part) && usize::from(part) < self.statements
+    }
+
+    // Can a statement of this kind have the number i?
+    fn fits(self, i: usize, kind: Kind) -> bool
+        ensures { result ≡ fits self.signals self.statements i kind }
+    {
+        match kind {
+            Kind::Nothing | Kind::Stop => true,
+            Kind::Emit { signal } | Kind::Wait { signal } => usize::from(signal) < self.signals,
+            Kind::Sequence { first, second } | Kind::Parallel { first, second } => {
+                self.rises(i, first) && self.rises(i, second)
+            }
+            Kind::Loop { first } => self.rises(i, first),
+            Kind::When {
+                signal,
+                first,
+                second,
+            } => {
+                usize::from(signal) < self.signals && self.rises(i, first) && self.rises(i, second)
+            }
+            Kind::Kill { signal, first } | Kind::Local { signal, first } => {
+                usize::from(signal) < self.signals && self.rises(i, first)
+            }
+        }
+    }
+}
+
+// A number of two bytes, the lower first: the library's conversion, in one line for the four numbers of a header.
 fn word(low: u8, high: u8) -> usize
     ensures { result ≡ low + 256 * high }
 {
-    low as usize + 256 * high as usize
-}
-
-// How many signals and statements the contents announce, where they and the length are right.
-fn contents(bytes: &[u8]) -> Option<(usize, usize)>
-    ensures { Headed bytes.now result }
-{
-    let [a, b, c, d, e, f, g, h, ..] = bytes else {
-        return None;
-    };
-    let signals = word(*c, *d);
-    let statements = word(*g, *h);
-    if word(*a, *b) == 8
-        && signals <= 64
-        && word(*e, *f) == 8 + signals
-        && 1 <= statements
-        && statements <= 256
-        && bytes.len() == 8 + signals + 4 * statements
-    {
-        Some((signals, statements))
-    } else {
-        None
-    }
-}
-
-fn signal_kind(byte: u8) -> Option<SignalKind>
-    ensures { result ≡ signal_kind byte }
-{
-    match byte {
-        0 => Some(SignalKind::Input),
-        1 => Some(SignalKind::Output),
-        2 => Some(SignalKind::Local),
-        _ => None,
-    }
-}
-
-fn spelled(kind: u8, signal: u8, first: u8, second: u8) -> Option<Kind>
-    ensures { result ≡ spelled kind signal first second }
-{
-    match (kind, signal, first, second) {
-        (0, 0, 0, 0) => Some(Kind::Nothing),
-        (1, 0, 0, 0) => Some(Kind::Stop),
-        (2, signal, 0, 0) => Some(Kind::Emit { signal }),
-        (3, signal, 0, 0) => Some(Kind::Wait { signal }),
-        (4, 0, first, second) => Some(Kind::Sequence { first, second }),
-        (5, 0, first, second) => Some(Kind::Parallel { first, second }),
-        (6, 0, first, 0) => Some(Kind::Loop { first }),
-        (7, signal, first, second) => Some(Kind::When {
-            signal,
-            first,
-            second,
-        }),
-        (8, signal, first, 0) => Some(Kind::Kill { signal, first }),
-        (9, signal, first, 0) => Some(Kind::Local { signal, first }),
-        _ => None,
-    }
-}
-
-fn rises(count: usize, i: usize, part: u8) -> bool
-    ensures { result ≡ rises count i part }
-{
-    i < part as usize && (part as usize) < count
-}
-
-// Can a statement of this kind have the number i, where there are so many signals and statements?
-fn fits(signals: usize, count: usize, i: usize, kind: Kind) -> bool
-    ensures { result ≡ fits signals count i kind }
-{
-    match kind {
-        Kind::Nothing | Kind::Stop => true,
-        Kind::Emit { signal } | Kind::Wait { signal } => (signal as usize) < signals,
-        Kind::Sequence { first, second } | Kind::Parallel { first, second } => {
-            rises(count, i, first) && rises(count, i, second)
-        }
-        Kind::Loop { first } => rises(count, i, first),
-        Kind::When {
-            signal,
-            first,
-            second,
-        } => { (signal as usize) < signals && rises(count, i, first) && rises(count, i, second) }
-        Kind::Kill { signal, first } | Kind::Local { signal, first } => {
-            (signal as usize) < signals && rises(count, i, first)
-        }
-    }
+    usize::from(u16::from_le_bytes([low, high]))
 }
 
 fn read_signals(heap: Global, bytes: &[u8]) -> Result<Vec<SignalKind>, Refusal>
@@ -102,30 +84,24 @@ fn read_signals(heap: Global, bytes: &[u8]) -> Result<Vec<SignalKind>, Refusal>
 {
     let mut made = Vec::new(heap);
     for (signal, byte) in bytes.iter().enumerate() {
-        let Some(kind) = signal_kind(*byte) else {
-            return Err(Refusal::SignalKind { signal });
-        };
+        let kind = SignalKind::try_from(*byte).map_err(|_| Refusal::SignalKind { signal })?;
         made.push(kind)?;
     }
     Ok(made)
 }
 
-fn read_statements(
-    heap: Global,
-    bytes: &[u8],
-    signals: usize,
-    count: usize,
-) -> Result<Vec<Statement>, Refusal>
-    ensures { Answers (records_from signals count 0 bytes.now) vec_items result }
+fn read_statements(heap: Global, bytes: &[u8], header: Header) -> Result<Vec<Statement>, Refusal>
+    ensures { Answers (records_from header.signals header.statements 0 bytes.now) vec_items result }
 {
     let mut made = Vec::new(heap);
     let mut left = bytes;
+    // A rule of the project: a record is taken apart by a pattern that hands on the rest.
     while let [kind, signal, first, second, rest @ ..] = left {
         let statement = made.len();
-        let Some(kind) = spelled(*kind, *signal, *first, *second) else {
-            return Err(Refusal::Record { statement });
-        };
-        if !fits(signals, count, statement, kind) {
+        let kind = Kind::try_from([*kind, *signal, *first, *second]).map_err(|_| Refusal::Record {
+            statement,
+        })?;
+        if !header.fits(statement, kind) {
             return Err(Refusal::Record { statement });
         }
         made.push(Statement::new(kind))?;
@@ -134,31 +110,14 @@ fn read_statements(
     Ok(made)
 }
 
-// Both parts of a table; where both are refused, the signals' refusal.
-fn both(
-    signals: Result<Vec<SignalKind>, Refusal>,
-    statements: Result<Vec<Statement>, Refusal>,
-) -> Result<(Vec<SignalKind>, Vec<Statement>), Refusal>
-    ensures { result ≡ both_of signals statements }
-{
-    match (signals, statements) {
-        (Err(refusal), _) => Err(refusal),
-        (Ok(_), Err(refusal)) => Err(refusal),
-        (Ok(signals), Ok(statements)) => Ok((signals, statements)),
-    }
-}
-
 // The table that the bytes say, or why they are none. The bytes may be any.
 pub fn read(heap: Global, bytes: &[u8]) -> Result<Table, Refusal>
     ensures { Answers (read_of bytes.now) content result }
 {
-    let Some((signals, count)) = contents(bytes) else {
-        return Err(Refusal::Form);
-    };
-    let split = 8 + signals;
-    let made = read_signals(heap, &bytes[8..split]);
-    let statements = read_statements(heap, &bytes[split..], signals, count);
-    let (signals, statements) = both(made, statements)?;
+    let header = Header::read(bytes)?;
+    let (kinds, records) = bytes[8..].split_at(header.signals);
+    let signals = read_signals(heap, kinds)?;
+    let statements = read_statements(heap, records, header)?;
     Ok(Table {
         signals,
         statements,

@@ -11,17 +11,17 @@ impl Refusal {
         ensures { option_map (λ x. x.now) result ≡ subject_of self.now }
     {
         match self {
-            Refusal::SignalKind { signal: _ } | Refusal::NotInput { signal: _ } => Some("signal"),
-            Refusal::Record { statement: _ }
-            | Refusal::Parts { statement: _ }
-            | Refusal::SignalUse { statement: _ }
-            | Refusal::Scope { statement: _ }
-            | Refusal::EndlessLoop { statement: _ }
-            | Refusal::NoSuchStatement { statement: _ }
-            | Refusal::NotReady { statement: _ }
-            | Refusal::StillReady { statement: _ }
-            | Refusal::RecordMarks { statement: _ } => Some("statement"),
-            Refusal::RecordHead { offset: _ } => Some("offset"),
+            Refusal::SignalKind { .. } | Refusal::NotInput { .. } => Some("signal"),
+            Refusal::Record { .. }
+            | Refusal::Parts { .. }
+            | Refusal::SignalUse { .. }
+            | Refusal::Scope { .. }
+            | Refusal::EndlessLoop { .. }
+            | Refusal::NoSuchStatement { .. }
+            | Refusal::NotReady { .. }
+            | Refusal::StillReady { .. }
+            | Refusal::RecordMarks { .. } => Some("statement"),
+            Refusal::RecordHead { .. } => Some("offset"),
             Refusal::Form
             | Refusal::AlreadyOpen
             | Refusal::AlreadyOver
@@ -39,37 +39,37 @@ impl Refusal {
     {
         match self {
             Refusal::Form => "the contents or the length are not those of a table",
-            Refusal::SignalKind { signal: _ } => "its kind is above 2",
-            Refusal::Record { statement: _ } => {
+            Refusal::SignalKind { .. } => "its kind is above 2",
+            Refusal::Record { .. } => {
                 "an unknown kind, an unused field that is not 0, a signal that is not there, or a part that is not above it"
             }
-            Refusal::Parts { statement: _ } => "it is not named as a part exactly once",
-            Refusal::SignalUse { statement: _ } =>
+            Refusal::Parts { .. } => "it is not named as a part exactly once",
+            Refusal::SignalUse { .. } =>
                 "an emit of an input, or a local statement whose signal is not local",
-            Refusal::Scope { statement: _ } => {
+            Refusal::Scope { .. } => {
                 "a local signal outside its local statement, or a local statement with the signal of a lower one"
             }
-            Refusal::EndlessLoop { statement: _ } => "a loop whose first part can end at once",
+            Refusal::EndlessLoop { .. } => "a loop whose first part can end at once",
             Refusal::AlreadyOpen => "an instant is open already",
             Refusal::AlreadyOver => "the routine is over",
             Refusal::NoInstantLeft => "no further instant can be counted",
-            Refusal::NotInput { signal: _ } => "it is no input",
+            Refusal::NotInput { .. } => "it is no input",
             Refusal::NotOpenToStep => "no instant is open, so nothing can be stepped",
-            Refusal::NoSuchStatement { statement: _ } => "there is no such statement",
-            Refusal::NotReady { statement: _ } => "it is not ready",
+            Refusal::NoSuchStatement { .. } => "there is no such statement",
+            Refusal::NotReady { .. } => "it is not ready",
             Refusal::NotOpenToClose => "no instant is open, so none can be closed",
-            Refusal::StillReady { statement: _ } => "it is still ready",
+            Refusal::StillReady { .. } => "it is still ready",
             Refusal::RecordForm =>
                 "the length, the contents or the zeros are not those of a record of this routine",
-            Refusal::RecordHead { offset: _ } => "the head of the record has a wrong field there",
-            Refusal::RecordMarks { statement: _ } => "its mark is against the rules",
+            Refusal::RecordHead { .. } => "the head of the record has a wrong field there",
+            Refusal::RecordMarks { .. } => "its mark is against the rules",
             Refusal::Memory => "out of memory",
         }
     }
 }
 
 // A refusal in plain words.
-#[derive(Clone, Copy)]
+#[derive(Clone, Copy, Debug, PartialEq, Eq)]
 pub struct Reason(pub Refusal);
 
 impl fmt::Display for Reason {

@@ -3,10 +3,11 @@ ghost use Rattle.routine.specs.declared.refusals.Refusal.TheVariants.{Memory};
 ghost use Rattle.routine.specs.Refusals.{number_of, layer_of, place_of, refusal_line};
 
 use std::alloc::{AllocError, AllocFailed};
+use std::error::Error;
 use std::fmt;
 
 // Why something was refused: a case for each refusal of the engine, by its layer. The field is its place.
-#[derive(Clone, Copy)]
+#[derive(Clone, Copy, Debug, PartialEq, Eq)]
 pub enum Refusal {
     // layer 1: the form of a table
     Form,
@@ -42,24 +43,24 @@ impl Refusal {
     {
         match self {
             Refusal::Form => Some(11),
-            Refusal::SignalKind { signal: _ } => Some(12),
-            Refusal::Record { statement: _ } => Some(13),
-            Refusal::Parts { statement: _ } => Some(21),
-            Refusal::SignalUse { statement: _ } => Some(22),
-            Refusal::Scope { statement: _ } => Some(23),
-            Refusal::EndlessLoop { statement: _ } => Some(24),
+            Refusal::SignalKind { .. } => Some(12),
+            Refusal::Record { .. } => Some(13),
+            Refusal::Parts { .. } => Some(21),
+            Refusal::SignalUse { .. } => Some(22),
+            Refusal::Scope { .. } => Some(23),
+            Refusal::EndlessLoop { .. } => Some(24),
             Refusal::AlreadyOpen => Some(31),
             Refusal::AlreadyOver => Some(32),
             Refusal::NoInstantLeft => Some(33),
-            Refusal::NotInput { signal: _ } => Some(34),
+            Refusal::NotInput { .. } => Some(34),
             Refusal::NotOpenToStep => Some(41),
-            Refusal::NoSuchStatement { statement: _ } => Some(42),
-            Refusal::NotReady { statement: _ } => Some(43),
+            Refusal::NoSuchStatement { .. } => Some(42),
+            Refusal::NotReady { .. } => Some(43),
             Refusal::NotOpenToClose => Some(51),
-            Refusal::StillReady { statement: _ } => Some(52),
+            Refusal::StillReady { .. } => Some(52),
             Refusal::RecordForm => Some(61),
-            Refusal::RecordHead { offset: _ } => Some(62),
-            Refusal::RecordMarks { statement: _ } => Some(63),
+            Refusal::RecordHead { .. } => Some(62),
+            Refusal::RecordMarks { .. } => Some(63),
             Refusal::Memory => None,
         }
     }
@@ -69,24 +70,23 @@ impl Refusal {
         ensures { result ≡ layer_of self.now }
     {
         match self {
-            Refusal::Form | Refusal::SignalKind { signal: _ } | Refusal::Record { statement: _ } =>
-                Some(1),
-            Refusal::Parts { statement: _ }
-            | Refusal::SignalUse { statement: _ }
-            | Refusal::Scope { statement: _ }
-            | Refusal::EndlessLoop { statement: _ } => Some(2),
+            Refusal::Form | Refusal::SignalKind { .. } | Refusal::Record { .. } => Some(1),
+            Refusal::Parts { .. }
+            | Refusal::SignalUse { .. }
+            | Refusal::Scope { .. }
+            | Refusal::EndlessLoop { .. } => Some(2),
             Refusal::AlreadyOpen
             | Refusal::AlreadyOver
             | Refusal::NoInstantLeft
-            | Refusal::NotInput { signal: _ }
+            | Refusal::NotInput { .. }
             | Refusal::NotOpenToStep
-            | Refusal::NoSuchStatement { statement: _ }
-            | Refusal::NotReady { statement: _ }
+            | Refusal::NoSuchStatement { .. }
+            | Refusal::NotReady { .. }
             | Refusal::NotOpenToClose
-            | Refusal::StillReady { statement: _ } => Some(3),
-            Refusal::RecordForm
-            | Refusal::RecordHead { offset: _ }
-            | Refusal::RecordMarks { statement: _ } => Some(4),
+            | Refusal::StillReady { .. } => Some(3),
+            Refusal::RecordForm | Refusal::RecordHead { .. } | Refusal::RecordMarks { .. } => Some(
+                4,
+            ),
             Refusal::Memory => None,
         }
     }
@@ -131,6 +131,9 @@ impl fmt::Display for Refusal {
     }
 }
 
+impl Error for Refusal {}
+
+// `?` wants a conversion from each of the two errors.
 impl From<AllocError> for Refusal {
     ghost from_gives = { λ _ r. r ≡ Memory };
 

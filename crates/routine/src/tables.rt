@@ -1,12 +1,13 @@
-ghost use Rattle.std.specs.Prelude.{◌≤◌, vec_len};
+ghost use Rattle.std.specs.Prelude.{◌≡◌, ◌≤◌, vec_len, slice_get};
 ghost use Rattle.routine.specs.Kinds.{kinds};
 ghost use Rattle.routine.specs.Layout.{Formed};
 
-use crate::kinds::{SignalKind, Statement};
+use crate::kinds::{Kind, SignalKind, Statement};
 
 // What a table's bytes say, not yet checked: its signals and its statements, each with a number from 0 on.
+// A part is a number and no box, since calls and refusals name statements by number.
 // It has the form of a table: at most 64 signals, 1 to 256 statements, fields that fit.
-#[derive(Drop)]
+#[derive(Debug, Drop)]
 pub struct Table {
     pub signals: Vec<SignalKind>,
     pub statements: Vec<Statement>,
@@ -14,4 +15,26 @@ pub struct Table {
     ghost some: { 1 ≤ vec_len statements },
     ghost most: { vec_len statements ≤ 256 },
     ghost formed: { Formed (vec_len signals) (kinds statements.items) },
+}
+
+impl Table {
+    ghost use Rattle.routine.specs.Kinds.{shape, kind_at};
+    ghost use Rattle.routine.specs.Tree.{node, tree_at};
+    ghost use Rattle.routine.specs.View.{signals_of, kinds_of, count_of, PartsRise};
+
+    // The kind of a signal, if there is one of that number.
+    pub fn signal(&self, signal: usize) -> Option<SignalKind>
+        ensures { result ≡ slice_get (signals_of self.now) signal }
+    {
+        self.signals.get(signal).copied()
+    }
+
+    // Statement i, one level of its tree, and where its parts lie. From the count on it counts as nothing.
+    pub fn kind(&self, i: usize) -> Kind
+        ensures value { result ≡ kind_at (kinds_of self.now) i }
+        ensures rise { PartsRise (count_of self.now) i (shape result) }
+        ensures level { tree_at (kinds_of self.now) i ≡ node i (shape result) (tree_at (kinds_of self.now)) }
+    {
+        self.statements.get(i).map_or(Kind::Nothing, |row| row.kind)
+    }
 }

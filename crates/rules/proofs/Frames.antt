@@ -1,5 +1,5 @@
 -- what a writer leaves as it is
-use Rattle.std.proofs.Common.{◌≡◌, ℕ, ◌<◌, ◌⊎◌, List, length, set, sym, refl, ap, ◌∙◌, subst, inl, inr, arith, length-set, get_or-set_other, get_or-set_same}
+use Rattle.std.proofs.Common.{◌≡◌, ℕ, ◌<◌, List, length, set, sym, refl, ap, ◌∙◌, subst, inl, inr, arith, length-set, get_or-set_other, get_or-set_same}
 use Rattle.rules.proofs.MarkedTrees.{Mark, idle, waiting, underway}
 use Rattle.rules.proofs.MarkedTrees.{mleaf, begin, rest, begun as first}
 use Rattle.rules.proofs.ByNumber.{Has, Distinct}
@@ -17,15 +17,8 @@ In t i = Has (blank t) i
 pub kept_set : (P : ℕ → Type 0) (ms : List Mark) (n : ℕ) (m : Mark) → P n → Kept P ms (set ms n m)
 kept_set P ms n m h = record { length = length-set ms n m; other = λ i d. get_or-set_other ms n i m idle (λ e. d (subst P (sym e) h)) }
 
-pub kept_id : (P : ℕ → Type 0) (ms : List Mark) → Kept P ms ms
-kept_id P ms = record { length = refl; other = λ i d. refl }
-
 pub kept_then : {P Q R : ℕ → Type 0} {a b c : List Mark} → ((i : ℕ) → P i → R i) → ((i : ℕ) → Q i → R i) → Kept P a b → Kept Q b c → Kept R a c
 kept_then f g h k = record { length = k.length ∙ h.length; other = λ i d. k.other i (λ q. d (g i q)) ∙ h.other i (λ p. d (f i p)) }
-
--- at a number and inside a part
-pub kept_own : (P : ℕ → Type 0) (n : ℕ) (m : Mark) (ms : List Mark) {ns : List Mark} → Kept P (set ms n m) ns → Kept (λ i. (i ≡ n) ⊎ P i) ms ns
-kept_own P n m ms h = kept_then (λ i e. inl e) (λ i p. inr p) (kept_set (λ i. i ≡ n) ms n m refl) h
 
 pub begun_kept : (t : Tree) (ms : List Mark) → Kept (In t) ms (begun t ms)
 begun_kept (leaf n k) ms = grind (arith, length-set, get_or-set_other)

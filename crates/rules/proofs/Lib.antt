@@ -30,3 +30,4 @@ pub mod OpenLocals
 pub mod Stays
 pub mod TakesTime
 pub mod Sums
+pub mod Hexadecimal

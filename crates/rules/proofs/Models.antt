@@ -90,13 +90,3 @@ module _ (ks : List Kind) (sorts : List Sort) (T : Table ks sorts) where
       let S = sound ks sorts T in
       let h = to_legal ks sorts T s.0 g in
       path_runs (enough ks) s l h (left_most (length ks) (tree_at ks 0) S s h)
-
--- nothing ready: nothing changes
-pub model_stays : (ks : List Kind) (f : ℕ) (s : Flat) → lowest (ready (tree_at ks 0) s.0 s.1) (length ks) ≡ None → model ks f s ≡ s
-unfolding model
-model_stays ks zero s e = refl
-model_stays ks (suc f) s e = ap (λ o. model ks f (turned ks s o)) e ∙ model_stays ks f s e
-
-pub model_steps : (ks : List Kind) (f : ℕ) (s : Flat) (i : ℕ) → lowest (ready (tree_at ks 0) s.0 s.1) (length ks) ≡ Some i → model ks (suc f) s ≡ model ks f (moved ks s i)
-unfolding model
-model_steps ks f s i e = ap (λ o. model ks f (turned ks s o)) e

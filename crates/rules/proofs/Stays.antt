@@ -35,9 +35,6 @@ taken_apart z l r o w h e = grind arith
 at_root : (l r : Bool) → ((not true || l) && r) ≡ true → l ≡ true
 at_root l r h = grind arith
 
-and_left : (b c : Bool) → (b && c) ≡ true → c ≡ true
-and_left b c h = grind arith
-
 weaker : (z l r o w : Bool) → ((not z || l) && (r && (not o || (false && w)))) ≡ true → ((not z || l) && (r && (not o || (true && w)))) ≡ true
 weaker z l r o w h = grind arith
 

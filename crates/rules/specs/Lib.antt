@@ -2,6 +2,7 @@ pub mod Runs
 pub mod Rules
 pub mod Legal
 pub mod Letters
+pub mod Texts
 pub mod Model
 pub mod Theorems
 pub mod Worked

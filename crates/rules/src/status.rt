@@ -4,7 +4,7 @@ ghost use Rattle.rules.specs.Letters.{letter_of};
 use std::fmt;
 
 // How an instant leaves a routine: to go on in the next one, or at its end.
-#[derive(Clone, Copy)]
+#[derive(Clone, Copy, Debug, PartialEq, Eq)]
 pub enum Status {
     Suspended,
     Terminated,

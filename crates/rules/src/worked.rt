@@ -1,16 +1,34 @@
-ghost use Rattle.std.specs.Prelude.{◌≡◌};
+ghost use Rattle.std.specs.Prelude.{◌≡◌, Some};
+ghost use Rattle.rules.specs.Texts.{summary_text};
 ghost use Rattle.rules.specs.Worked.{All, claims, model_lines};
 
 use crate::status::Status;
+use std::fmt;
 
 // What one instant of a worked routine comes to.
-#[derive(Clone, Copy)]
+#[derive(Clone, Copy, Debug, PartialEq, Eq)]
 pub struct Summary {
     pub routine: u8,
     pub instant: u8,
     pub outputs: u64,
     pub status: Status,
     pub steps: u16,
+}
+
+// The routine, the instant, the output word, the status and the steps.
+impl fmt::Display for Summary {
+    ghost output = { λ s. Some (summary_text s) };
+
+    fn fmt<W: fmt::Write>(&self, f: &mut fmt::Formatter<W>) -> fmt::Result {
+        let Summary {
+            routine,
+            instant,
+            outputs,
+            status,
+            steps,
+        } = *self;
+        write!(f, "{routine} {instant} {outputs:016x} {status} {steps}")
+    }
 }
 
 // What the plain model makes of the worked routines, instant by instant.

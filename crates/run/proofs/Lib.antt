@@ -1,3 +1,2 @@
-pub mod Bytes
-pub mod Texts
+pub mod Words
 pub mod Reacted

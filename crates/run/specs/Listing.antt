@@ -1,34 +1,22 @@
 -- what is printed of an input
-use Rattle.std.specs.Prelude.{ℕ, zero, suc, ◌+◌, ◌/◌, ◌%◌, ◌^◌, cond, List, [], ◌∷◌, ◌++◌, Some, None, Ok, Err, codes, decimal, Option, Result, nat_lt}
+use Rattle.std.specs.Prelude.{ℕ, List, [], ◌∷◌, ◌++◌, Some, None, Ok, Err, Option, Result}
 use Rattle.routine.specs.declared.kinds.SignalKind.{SignalKind}
 use Rattle.routine.specs.declared.kinds.Kind.{Kind}
 use Rattle.routine.specs.declared.kinds.Statement.{Statement}
 use Rattle.routine.specs.declared.refusals.Refusal.{Refusal}
 use Rattle.routine.specs.Kinds.{kinds}
 use Rattle.routine.specs.Refusals.{refusal_line}
+use Rattle.routine.specs.Texts.{line_end}
 use Rattle.routine.specs.View.{load_of}
-use Rattle.rules.specs.Letters.{letter_of}
 use Rattle.count.specs.declared.answers.Closing.{Closing}
 use Rattle.count.specs.State.{State}
+use Rattle.count.specs.Texts.{closing_text}
 use Rattle.count.specs.Calls.{new_state, begin_refusal, react_closing, react_state}
 use Rattle.run.specs.Input.{table_part, word_part, words_of}
 
-abbrev pub line_end : List ℕ
-line_end = 10 ∷ []
-
--- 0 to 9, then a to f
-abbrev pub digit : ℕ → ℕ
-digit d = cond (nat_lt d 10) (48 + d) (87 + d)
-
--- so many hexadecimal digits of a number, the highest first
-unfoldable pub hex : ℕ → ℕ → List ℕ
-hex zero n = []
-hex (suc i) n = digit (n / 16 ^ i % 16) ∷ hex i n
-
 -- a closed instant: its number, the output word, the status, the steps
 abbrev pub closing_line : Closing → List ℕ
-closing_line c =
-    decimal c.instant ++ (codes " " ++ (hex 16 c.outputs ++ (codes " " ++ (letter_of c.status ++ (codes " " ++ (decimal c.steps ++ line_end))))))
+closing_line c = closing_text c ++ line_end
 
 abbrev pub refused_line : Refusal → List ℕ
 refused_line e = refusal_line e ++ line_end

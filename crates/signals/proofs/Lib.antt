@@ -1,3 +1,4 @@
 pub mod Sets
 pub mod WordSets
 pub mod StampSets
+pub mod Boards

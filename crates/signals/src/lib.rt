@@ -1,4 +1,4 @@
-#![tactic(auto)]
+#![tactic(auto, using(crate::proofs::Boards::boards))]
 
 pub mod bits;
 pub mod board;

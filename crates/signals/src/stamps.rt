@@ -6,7 +6,7 @@ use super::board::Board;
 
 // A board with a stamp for each signal: signal k is present where its stamp is the current one.
 // A wipe goes on to the next stamp, which no signal has. After the last stamp it sets all stamps to 0
-// and begins again with 1.
+// and begins again with 1. No `impl Model`: the contracts speak of the stamps.
 #[derive(Debug, Drop)]
 pub struct StampBoard {
     stamps: [u32; 64],
@@ -31,6 +31,7 @@ impl StampBoard {
     }
 
     // A board on which no signal is present, with the last stamp current: the next wipe wraps around.
+    // Two fields stand here and in `new`; a constructor that takes two numbers would be no plainer.
     // Every signal has the stamp 1, and would be present again if that wipe left the stamps as they are.
     pub fn at_last_stamp() -> StampBoard
         ensures vacant { stamp_set result.stamps result.current ≡ empty }
@@ -40,6 +41,17 @@ impl StampBoard {
         StampBoard {
             stamps: [1; 64],
             current: u32::MAX,
+        }
+    }
+
+    // Gives a signal a stamp, if there is one of that number.
+    fn stamp(&mut self, signal: u8, stamp: u32)
+        requires { stamp ≤ self.old.current }
+        ensures row { self.new.stamps ≡ slice_set self.old.stamps signal stamp }
+        ensures kept { self.new.current ≡ self.old.current }
+    {
+        if signal < 64 {
+            self.stamps[usize::from(signal)] = stamp;
         }
     }
 }
@@ -67,9 +79,7 @@ impl Board for StampBoard {
         ensures row { self.new.stamps ≡ slice_set self.old.stamps signal self.old.current }
         ensures stamp { self.new.current ≡ self.old.current }
     {
-        if signal < 64 {
-            self.stamps[signal as usize] = self.current;
-        }
+        self.stamp(signal, self.current);
     }
 
     fn lower(&mut self, signal: u8)
@@ -77,12 +87,10 @@ impl Board for StampBoard {
         ensures row { self.new.stamps ≡ slice_set self.old.stamps signal 0 }
         ensures stamp { self.new.current ≡ self.old.current }
     {
-        if signal < 64 {
-            self.stamps[signal as usize] = 0;
-        }
+        self.stamp(signal, 0);
     }
 
     fn ask(&self, signal: u8) -> bool {
-        signal < 64 && self.stamps[signal as usize] == self.current
+        self.stamps.get(usize::from(signal)) == Some(&self.current)
     }
 }

@@ -6,13 +6,9 @@ use std::process::Abort;
 
 // The answers for the signals 0 to 63, as the bits of a word.
 fn answers<B: Board>(board: &B) -> u64 {
-    let mut word = 0;
-    for signal in 0..64u8 {
-        if board.ask(signal) {
-            word |= 1 << signal;
-        }
-    }
-    word
+    (0..64)
+        .filter(|&signal| board.ask(signal))
+        .fold(0, |word, signal| word | 1 << signal)
 }
 
 // Every call, on any board that is empty at first.

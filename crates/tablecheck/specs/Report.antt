@@ -1,5 +1,6 @@
 -- what is printed of a table
-use Rattle.std.specs.Prelude.{ℕ, zero, suc, ◌+◌, List, [], ◌∷◌, ◌++◌, length, Ok, Err, codes, decimal, Result}
+use Rattle.std.specs.Prelude.{ℕ, ◌+◌, ◌*◌, List, ◌++◌, length, Ok, Err, codes, decimal, Result}
+use Rattle.std.specs.List.{repeat}
 use Rattle.routine.specs.declared.kinds.SignalKind.{SignalKind}
 use Rattle.routine.specs.declared.kinds.SignalKind.TheVariants.{Input, Output, Local}
 use Rattle.routine.specs.declared.kinds.Kind.{Kind}
@@ -7,25 +8,22 @@ use Rattle.routine.specs.declared.kinds.Statement.{Statement}
 use Rattle.routine.specs.declared.refusals.Refusal.{Refusal}
 use Rattle.routine.specs.Refusals.{refusal_line}
 use Rattle.routine.specs.Kinds.{kinds, kind_at}
-use Rattle.routine.specs.Texts.{kind_text, reason_text}
+use Rattle.routine.specs.Texts.{line_end, kind_text, reason_text}
 use Rattle.routine.specs.Tree.{Tree, leaf, one, two, tree_at}
 use Rattle.routine.specs.Meaning.{how_many}
 use Rattle.routine.specs.View.{load_of}
-
-abbrev pub line_end : List ℕ
-line_end = 10 ∷ []
+use Rattle.tablecheck.specs.declared.report.Census.{Census}
 
 -- two blanks for each level
 abbrev pub indent : ℕ → List ℕ
-indent zero = []
-indent (suc d) = indent d ++ codes "  "
+indent d = repeat (2 * d) (codes " ")
 
 -- statement i, d levels down: its number, its name and its signal
-abbrev pub line_text : ℕ → ℕ → Kind → List ℕ
-line_text d i k = indent d ++ (decimal i ++ (codes " " ++ (kind_text k ++ line_end)))
+abbrev pub statement_text : ℕ → ℕ → Kind → List ℕ
+statement_text d i k = indent d ++ (decimal i ++ (codes " " ++ kind_text k))
 
 abbrev pub outline_line : List Kind → ℕ → ℕ → List ℕ
-outline_line ks d i = line_text d i (kind_at ks i)
+outline_line ks d i = statement_text d i (kind_at ks i) ++ line_end
 
 -- a line for each statement of the tree, its parts one level below it
 abbrev pub outline : List Kind → ℕ → Tree → List ℕ
@@ -34,21 +32,21 @@ outline ks d (one n k p) = outline_line ks d n ++ outline ks (d + 1) p
 outline ks d (two n k p q) = outline_line ks d n ++ (outline ks (d + 1) p ++ outline ks (d + 1) q)
 
 -- how many there are of each
-abbrev pub census_line : ℕ → ℕ → ℕ → ℕ → List ℕ
-census_line inputs outputs locals statements =
-    codes "inputs " ++ (decimal inputs
-    ++ (codes ", outputs " ++ (decimal outputs
-    ++ (codes ", locals " ++ (decimal locals
-    ++ (codes ", statements " ++ (decimal statements ++ line_end)))))))
+abbrev pub census_text : Census → List ℕ
+census_text c =
+    codes "inputs " ++ (decimal c.inputs
+    ++ (codes ", outputs " ++ (decimal c.outputs
+    ++ (codes ", locals " ++ (decimal c.locals
+    ++ (codes ", statements " ++ decimal c.statements))))))
 
-abbrev pub census : List SignalKind → List Kind → List ℕ
-census gs ks = census_line (how_many Input gs) (how_many Output gs) (how_many Local gs) (length ks)
+abbrev pub census : List SignalKind → List Kind → Census
+census gs ks = record { inputs = how_many Input gs; outputs = how_many Output gs; locals = how_many Local gs; statements = length ks }
 
 abbrev pub routine_report : List SignalKind → List Kind → List ℕ
-routine_report gs ks = census gs ks ++ outline ks 0 (tree_at ks 0)
+routine_report gs ks = (census_text (census gs ks) ++ line_end) ++ outline ks 0 (tree_at ks 0)
 
 abbrev pub refusal_report : Refusal → List ℕ
-refusal_report e = (refusal_line e ++ line_end) ++ (reason_text e ++ line_end)
+refusal_report e = refusal_line e ++ (line_end ++ (reason_text e ++ line_end))
 
 abbrev pub verdict : Result (List SignalKind × List Statement) Refusal → List ℕ
 verdict (Ok p) = routine_report p.0 (kinds p.1)

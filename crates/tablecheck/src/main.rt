@@ -6,10 +6,11 @@ mod report;
 use report::report;
 use std::io::Read;
 
+// The programs `run` and `tablecheck` differ in the text that they make; a crate for these four lines would be no plainer.
 // Reads a table from standard input and prints whether it is a routine.
 fn main(rt: HostRuntime) -> anyhow::Result<()> {
     let mut bytes = Vec::new(rt.alloc());
-    let _ = rt.stdin().take(65536).read_to_end(&mut bytes)?;
+    rt.stdin().take(65536).read_to_end(&mut bytes)?;
     let text = report(rt.alloc(), &bytes)?;
     print!(rt; "{text}")?;
     Ok(())

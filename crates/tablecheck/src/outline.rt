@@ -1,62 +1,58 @@
-ghost use Rattle.std.specs.Prelude.{◌≡◌, ℕ, ◌+◌, ◌<◌, ◌≤◌, ◌++◌, length, string_bytes, OnOk};
-ghost use Rattle.routine.specs.Kinds.{kind_at};
+ghost use Rattle.std.specs.Prelude.{◌≡◌, ◌<◌, ◌≤◌, ◌++◌, Some, string_bytes, OnOk};
 ghost use Rattle.routine.specs.Tree.{tree_at};
 ghost use Rattle.routine.specs.View.{kinds_of, count_of};
-ghost use Rattle.tablecheck.specs.Report.{indent, line_text, outline};
+ghost use Rattle.tablecheck.specs.Report.{statement_text, outline};
 
 use routine::{Kind, Routine};
+use std::alloc::AllocError;
 use std::fmt;
 
-// Two blanks for each level.
-fn write_indent(out: &mut String, depth: usize) -> fmt::Result
-    ensures { OnOk result (string_bytes out.new ≡ string_bytes out.old ++ indent depth) }
-{
-    for _ in 0..depth {
-        write!(out, "  ")?;
+// A statement of the outline: two blanks for each level, its number, its name and its signal.
+#[derive(Clone, Copy, Debug, PartialEq, Eq)]
+struct Line {
+    depth: u8,
+    number: u8,
+    kind: Kind,
+}
+
+impl fmt::Display for Line {
+    ghost output = { λ l. Some (statement_text l.depth l.number l.kind) };
+
+    #[tactic(auto, using(crate::proofs::Lines::blanks))]
+    fn fmt<W: fmt::Write>(&self, f: &mut fmt::Formatter<W>) -> fmt::Result {
+        let width = 2 * usize::from(self.depth);
+        write!(f, "{:width$}{} {}", "", self.number, self.kind)
     }
-    Ok(())
 }
 
-// The line of one statement.
-fn write_line(out: &mut String, depth: usize, i: usize, kind: Kind) -> fmt::Result
-    ensures { OnOk result (string_bytes out.new ≡ string_bytes out.old ++ line_text depth i kind) }
-{
-    write_indent(out, depth)?;
-    writeln!(out, "{i} {kind}")?;
-    Ok(())
-}
-
-// The lines of statement i and of all that lies inside it.
+// The lines of a statement and of all that lies inside it: a function, since a `Display` that prints its parts
+// through itself is proved only for a type that contains itself.
 pub(crate) fn write_outline(
     out: &mut String,
     routine: &Routine,
-    i: usize,
-    depth: usize,
-) -> fmt::Result
-    requires within { i < count_of routine.now.table }
-    requires above { depth ≤ i }
-    ensures { OnOk result (string_bytes out.new ≡ string_bytes out.old ++ outline (kinds_of routine.now.table) depth (tree_at (kinds_of routine.now.table) i)) }
+    number: u8,
+    depth: u8,
+) -> Result<(), AllocError>
+    requires { depth ≤ number }
+    ensures { let ks = kinds_of routine.now.table in OnOk result (string_bytes out.new ≡ string_bytes out.old ++ outline ks depth (tree_at ks number)) }
 {
-    let Some(kind) = routine.kind(i) else {
-        return Ok(());
+    let kind = routine.table.kind(usize::from(number));
+    let line = Line {
+        depth,
+        number,
+        kind,
     };
-    write_line(out, depth, i, kind)?;
+    writeln!(out, "{line}")?;
     match kind {
-        Kind::Nothing | Kind::Stop | Kind::Emit { signal: _ } | Kind::Wait { signal: _ } => {}
-        Kind::Loop { first } | Kind::Kill { signal: _, first } | Kind::Local { signal: _, first } =>
-            {
-                write_outline(out, routine, first as usize, depth + 1)?;
-            }
+        Kind::Nothing | Kind::Stop | Kind::Emit { .. } | Kind::Wait { .. } => Ok(()),
+        Kind::Loop { first } | Kind::Kill { first, .. } | Kind::Local { first, .. } => {
+            write_outline(out, routine, first, depth + 1)
+        }
         Kind::Sequence { first, second }
         | Kind::Parallel { first, second }
-        | Kind::When {
-            signal: _,
-            first,
-            second,
-        } => {
-            write_outline(out, routine, first as usize, depth + 1)?;
-            write_outline(out, routine, second as usize, depth + 1)?;
+        | Kind::When { first, second, .. } => {
+            write_outline(out, routine, first, depth + 1)?;
+            write_outline(out, routine, second, depth + 1)
         }
     }
-    Ok(())
 }

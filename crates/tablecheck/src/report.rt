@@ -1,54 +1,44 @@
-ghost use Rattle.std.specs.Prelude.{◌≡◌, ◌++◌, IfOk, string_bytes, OnOk};
+ghost use Rattle.std.specs.Prelude.{◌≡◌, IfOk, Some, string_bytes};
 ghost use Rattle.routine.specs.View.{signals_of, kinds_of};
-ghost use Rattle.tablecheck.specs.Report.{refusal_report, census, routine_report, report_of};
+ghost use Rattle.tablecheck.specs.Report.{census_text, census, report_of};
 
 use crate::outline::write_outline;
 use routine::{Reason, Refusal, Routine, SignalKind, load};
 use std::alloc::{AllocError, Global};
 use std::fmt;
 
-fn write_refusal(out: &mut String, refusal: Refusal) -> fmt::Result
-    ensures { OnOk result (string_bytes out.new ≡ string_bytes out.old ++ refusal_report refusal) }
-{
-    writeln!(out, "{refusal}")?;
-    let reason = Reason(refusal);
-    writeln!(out, "{reason}")?;
-    Ok(())
-}
-
 // How many signals and statements there are.
-fn write_census(out: &mut String, routine: &Routine) -> fmt::Result
-    ensures { OnOk result (string_bytes out.new ≡ string_bytes out.old ++ census (signals_of routine.now.table) (kinds_of routine.now.table)) }
-{
-    let inputs = routine.signals(SignalKind::Input);
-    let outputs = routine.signals(SignalKind::Output);
-    let locals = routine.signals(SignalKind::Local);
-    let statements = routine.count();
-    writeln!(
-        out,
-        "inputs {inputs}, outputs {outputs}, locals {locals}, statements {statements}"
-    )?;
-    Ok(())
+#[derive(Clone, Copy, Debug, PartialEq, Eq)]
+struct Census {
+    inputs: usize,
+    outputs: usize,
+    locals: usize,
+    statements: usize,
 }
 
-// The routine in a few lines: how many there are of each, and its outline.
-fn write_routine(out: &mut String, routine: &Routine) -> fmt::Result
-    ensures { OnOk result (string_bytes out.new ≡ string_bytes out.old ++ routine_report (signals_of routine.now.table) (kinds_of routine.now.table)) }
-{
-    write_census(out, routine)?;
-    write_outline(out, routine, 0, 0)?;
-    Ok(())
-}
-
-fn write_report(out: &mut String, heap: Global, bytes: &[u8]) -> fmt::Result
-    ensures { OnOk result (string_bytes out.new ≡ string_bytes out.old ++ report_of bytes.now) }
-{
-    match load(heap, bytes) {
-        Ok(routine) => write_routine(out, &routine)?,
-        Err(Refusal::Memory) => return Err(fmt::Error),
-        Err(refusal) => write_refusal(out, refusal)?,
+impl Census {
+    fn of(routine: &Routine) -> Self
+        ensures { result ≡ census (signals_of routine.now.table) (kinds_of routine.now.table) }
+    {
+        Census {
+            inputs: routine.signals(SignalKind::Input),
+            outputs: routine.signals(SignalKind::Output),
+            locals: routine.signals(SignalKind::Local),
+            statements: routine.count(),
+        }
     }
-    Ok(())
+}
+
+impl fmt::Display for Census {
+    ghost output = { λ c. Some (census_text c) };
+
+    fn fmt<W: fmt::Write>(&self, f: &mut fmt::Formatter<W>) -> fmt::Result {
+        write!(
+            f,
+            "inputs {}, outputs {}, locals {}, statements {}",
+            self.inputs, self.outputs, self.locals, self.statements
+        )
+    }
 }
 
 // What there is to say of a table's bytes: the routine that they are, or why they are none.
@@ -56,8 +46,14 @@ pub fn report(heap: Global, bytes: &[u8]) -> Result<String, AllocError>
     ensures { IfOk result (λ s. string_bytes s ≡ report_of bytes.now) }
 {
     let mut text = String::new(heap);
-    match write_report(&mut text, heap, bytes) {
-        Ok(()) => Ok(text),
-        Err(_) => Err(AllocError),
+    match load(heap, bytes) {
+        Ok(routine) => {
+            writeln!(text, "{}", Census::of(&routine))?;
+            write_outline(&mut text, &routine, 0, 0)?;
+        }
+        // Want of memory is no refusal of the table.
+        Err(Refusal::Memory) => return Err(AllocError),
+        Err(refusal) => writeln!(text, "{refusal}\n{}", Reason(refusal))?,
     }
+    Ok(text)
 }

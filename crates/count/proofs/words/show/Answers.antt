@@ -1,17 +1,27 @@
-use Rattle.std.proofs.Common.{Bool, true, List, set, sym, ap, ◌∙◌, arith}
-use Rattle.count.proofs.Shown.{shown_none, shown_set, shown_keep, shown_all}
+use Rattle.std.proofs.Common.{◌<◌, ◌+◌, List, Bool, false, sym, ap, ◌∙◌, subst, get_or, ext_get_or, arith}
+use Rattle.signals.specs.Sizes.{length-word_set}
+use Rattle.signals.proofs.Sets.{get_or-empty}
+use Rattle.signals.proofs.WordSets.{get_or-word_set}
+use Rattle.count.specs.Calls.{bit}
+use Rattle.count.proofs.Shown.{Shown, shown_keep, shown_set}
 use Rattle.count.proofs.words.show.Goals as goal
 use Rattle.count.proofs.words.show.Goals.{then-has_bit, else-has_bit}
 
 pub loop-s-init : goal.loop-s-init
-loop-s-init g c = c.wipe.ensures ∙ shown_none c.args.word
+loop-s-init g c = record { done = λ k l. absurd (omega arith); ahead = λ k l. ap (λ (p : List Bool). get_or p k false) c.wipe.ensures ∙ get_or-empty k }
 
 pub loop-s-preserved : goal.loop-s-preserved
 loop-s-preserved g c =
+    let s = c.loop-s in
+    let P = g.B.Board.present in
+    let f = bit c.args.word in
     elim c.if-has_bit.branch [
-      | then-has_bit w ↦ ap g.B.Board.present w.board-is ∙ w.raise.ensures ∙ ap (λ (p : List Bool). set p c.loop-s.s true) c.loop-s.invariant ∙ shown_set c.args.word c.loop-s.s (omega arith) (sym w.if-has_bit.ensures)
-      | else-has_bit w ↦ ap g.B.Board.present w.board-is ∙ c.loop-s.invariant ∙ shown_keep c.args.word c.loop-s.s (omega arith) (sym w.if-has_bit.ensures)
+      | then-has_bit w ↦
+          subst (Shown f (s.s + 1)) (sym (ap P w.board-is ∙ w.raise.ensures)) (shown_set f s.s (P s.board) (g.met.B.Board.size s.board) (omega arith) (sym w.if-has_bit.ensures) s.invariant)
+      | else-has_bit w ↦ subst (Shown f (s.s + 1)) (sym (ap P w.board-is)) (shown_keep f s.s (P s.board) (sym w.if-has_bit.ensures) s.invariant)
     ]
 
 pub returns : goal.returns
-returns g c = c.loop-s.invariant ∙ shown_all c.args.word c.loop-s.s (omega arith)
+returns g c =
+    let e = g.met.B.Board.size c.loop-s.board in
+    ext_get_or false _ _ (e ∙ sym (length-word_set c.args.word)) (λ k l. let m : k < 64 = omega arith in c.loop-s.invariant.done k (omega arith) ∙ sym (get_or-word_set c.args.word k m))

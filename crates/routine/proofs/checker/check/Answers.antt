@@ -1,23 +1,38 @@
-use Rattle.std.proofs.Common.{refl}
-use Rattle.routine.proofs.Checking.{fails_parts, fails_use, fails_scope, fails_loop, fails_none, passed}
+use Rattle.std.proofs.Common.{refl, rules, tests, sym, ◌∙◌}
+use Rattle.routine.proofs.Searches.{lowest_by}
+use Rattle.routine.proofs.Checking.{verdict_by, passed}
 use Rattle.routine.proofs.checker.check.Goals as goal
 
 pub returns-in-Some : goal.returns-in-Some
-returns-in-Some c = fails_parts c.args.table _ c.in-Some.ensures
+returns-in-Some c =
+    let a = lowest_by _ c.offender.ensures (λ k b l p. search (rules, tests)) in
+    verdict_by c.args.table _ _ _ _ (sym c.in-Some.is ∙ a) refl refl refl
 
 pub returns-in-Some-offender : goal.returns-in-Some-offender
-returns-in-Some-offender c = fails_use c.args.table c.in_default.ensures _ c.in-Some-offender.ensures
+returns-in-Some-offender c =
+    let a = lowest_by _ c.offender.ensures (λ k b l p. search (rules, tests)) in
+    let b = lowest_by _ c.offender-2.ensures (λ k b l p. search (rules, tests)) in
+    verdict_by c.args.table _ _ _ _ (sym c.in_default.is ∙ a) (sym c.in-Some-offender.is ∙ b) refl refl
 
 pub returns-in-Some-offender-2 : goal.returns-in-Some-offender-2
-returns-in-Some-offender-2 c = fails_scope c.args.table c.in_default.ensures c.in_default-offender.ensures _ c.in-Some-offender-2.ensures
+returns-in-Some-offender-2 c =
+    let a = lowest_by _ c.offender.ensures (λ k b l p. search (rules, tests)) in
+    let b = lowest_by _ c.offender-2.ensures (λ k b l p. search (rules, tests)) in
+    let d = lowest_by _ c.offender-3.ensures (λ k b l p. search (rules, tests)) in
+    verdict_by c.args.table _ _ _ _ (sym c.in_default.is ∙ a) (sym c.in_default-offender.is ∙ b) (sym c.in-Some-offender-2.is ∙ d) refl
 
 pub returns-in-Some-offender-3 : goal.returns-in-Some-offender-3
-returns-in-Some-offender-3 c = fails_loop c.args.table c.in_default.ensures c.in_default-offender.ensures c.in_default-offender-2.ensures _ c.in-Some-offender-3.ensures
+returns-in-Some-offender-3 c =
+    let a = lowest_by _ c.offender.ensures (λ k b l p. search (rules, tests)) in
+    let b = lowest_by _ c.offender-2.ensures (λ k b l p. search (rules, tests)) in
+    let d = lowest_by _ c.offender-3.ensures (λ k b l p. search (rules, tests)) in
+    let e = lowest_by _ c.offender-4.ensures (λ k b l p. search (rules, tests)) in
+    verdict_by c.args.table _ _ _ _ (sym c.in_default.is ∙ a) (sym c.in_default-offender.is ∙ b) (sym c.in_default-offender-2.is ∙ d) (sym c.in-Some-offender-3.is ∙ e)
 
 pub invariant_of-result : goal.invariant_of-result
 invariant_of-result c =
-    record { passed = passed c.args.table (fails_none c.args.table c.in_default.ensures c.in_default-offender.ensures c.in_default-offender-2.ensures c.in_default-offender-3.ensures) }
-
-pub returns : goal.returns
-returns c =
-    (fails_none c.args.table c.in_default.ensures c.in_default-offender.ensures c.in_default-offender-2.ensures c.in_default-offender-3.ensures, refl)
+    let a = lowest_by _ c.offender.ensures (λ k b l p. search (rules, tests)) in
+    let b = lowest_by _ c.offender-2.ensures (λ k b l p. search (rules, tests)) in
+    let d = lowest_by _ c.offender-3.ensures (λ k b l p. search (rules, tests)) in
+    let e = lowest_by _ c.offender-4.ensures (λ k b l p. search (rules, tests)) in
+    record { passed = passed c.args.table (verdict_by c.args.table _ _ _ _ (sym c.in_default.is ∙ a) (sym c.in_default-offender.is ∙ b) (sym c.in_default-offender-2.is ∙ d) (sym c.in_default-offender-3.is ∙ e)) }

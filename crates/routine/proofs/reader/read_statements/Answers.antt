@@ -6,5 +6,5 @@ use Rattle.routine.proofs.reader.read_statements.Goals as goal
 pub loop-left-preserved : goal.loop-left-preserved
 loop-left-preserved c =
     let e = c.in_ok-push.ensures in
-    records_more c.args.signals c.args.count _ c.loop-left.left.now (search rules) _ _ c.loop-left.invariant
-    (vec_items c.push.new.self) c.in-Some.kind c.new.result (vec_len c.push.new.self) c.in-Some.ensures (c.if-not-fits.ensures ∙ ap (λ (m : ℕ). fits c.args.signals c.args.count m c.in-Some.kind) c.len-statement.ensures) c.new.ensures e.items e.len
+    records_more c.args.header.signals c.args.header.statements _ c.loop-left.left.now (search rules) _ _ c.loop-left.invariant
+    (vec_items c.push.new.self) c.in_ok-kind.kind c.new.result (vec_len c.push.new.self) (search rules) (c.if-not-fits.ensures ∙ ap (λ (m : ℕ). fits c.args.header.signals c.args.header.statements m c.in_ok-kind.kind) c.len-statement.ensures) c.new.ensures e.items e.len

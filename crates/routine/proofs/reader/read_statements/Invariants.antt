@@ -4,7 +4,7 @@ use Rattle.routine.proofs.Entries.{after}
 use Rattle.routine.proofs.reader.read_statements.Given as goal
 
 abbrev pub invariant-loop-left : goal.invariant-loop-left
-invariant-loop-left l = after (vec_items l.made) (records_from l.signals l.count (vec_len l.made) l.left) ≡ records_from l.signals l.count 0 l.bytes
+invariant-loop-left l = after (vec_items l.made) (records_from l.header.signals l.header.statements (vec_len l.made) l.left) ≡ records_from l.header.signals l.header.statements 0 l.bytes
 
 abbrev pub decreases-loop-left : goal.decreases-loop-left
 decreases-loop-left l = length l.left

@@ -1,35 +1,20 @@
-use Rattle.std.proofs.Common.{◌+◌, ◌-◌, ◌*◌, ◌/◌, ◌++◌, length, string_bytes, sym, ap, ◌∙◌}
-use Rattle.count.specs.CountView.{kinds_of, signals_of, state_of}
-use Rattle.run.specs.Input.{word_at, words_from}
-use Rattle.run.specs.Listing.{lines}
-use Rattle.run.proofs.Bytes.{words_more, words_done}
+use Rattle.std.proofs.lemmas.Result.{on_ok_weaker}
+use Rattle.run.proofs.Words.{words_all, words_more, words_done}
 use Rattle.run.proofs.Reacted.{line_more, line_last, line_none}
 use Rattle.run.proofs.listing.write_lines.Goals as goal
 
 pub returns-in-Err : goal.returns-in-Err
 returns-in-Err g c =
-    let o = c.args.count.now in
-    let bs = c.args.bytes.now in
-    let n = length bs / 8 in
-    let k = c.loop-k.k in
-    let i = c.loop-k.invariant in
-    let todo = ap (λ l. string_bytes c.loop-k.out ++ lines (signals_of o) (kinds_of o) (state_of g.B.Board.present c.loop-k.count) l) (sym (words_more bs n k c.loop-k-test.true)) ∙ i.2 in
-    line_last g.B.Board.present (signals_of o) (kinds_of o) c.loop-k.count c.react.new.self c.word_at.result (word_at bs (8 * k)) (words_from bs (n - (k + 1)) (k + 1))
-    (string_bytes c.loop-k.out) (string_bytes c.write_refusal.new.out) _ i.0 i.1 c.word_at.ensures todo c.in-Err.refusal c.in-Err.ensures c.in_ok-write_refusal-in-Err.ensures
+    let more = words_more c.as_chunks.result.0.now c.loop-word.word-index c.from_le_bytes.result c.loop-word-test.true c.from_le_bytes.ensures in
+    on_ok_weaker c.writeln-in-Err.result (line_last _ _ _ _ _ _ _ _ (rw more at c.loop-word.invariant) c.in-Err.refusal c.in-Err.ensures) c.writeln-in-Err.ensures.bytes
 
-pub loop-k-preserved : goal.loop-k-preserved
-loop-k-preserved g c =
-    let o = c.args.count.now in
-    let bs = c.args.bytes.now in
-    let n = length bs / 8 in
-    let k = c.loop-k.k in
-    let i = c.loop-k.invariant in
-    let todo = ap (λ l. string_bytes c.loop-k.out ++ lines (signals_of o) (kinds_of o) (state_of g.B.Board.present c.loop-k.count) l) (sym (words_more bs n k c.loop-k-test.true)) ∙ i.2 in
-    line_more g.B.Board.present (signals_of o) (kinds_of o) c.loop-k.count c.react.new.self c.word_at.result (word_at bs (8 * k)) (words_from bs (n - (k + 1)) (k + 1))
-    (string_bytes c.loop-k.out) (string_bytes c.write_closing.new.out) _ i.0 i.1 c.word_at.ensures todo c.in-Ok.closing c.in-Ok.ensures c.in_ok-write_closing-in-Ok.ensures
+pub loop-word-init : goal.loop-word-init
+loop-word-init g c = rw (c.as_chunks.ensures.front, words_all)
+
+pub loop-word-preserved : goal.loop-word-preserved
+loop-word-preserved g c =
+    let more = words_more c.as_chunks.result.0.now c.loop-word.word-index c.from_le_bytes.result c.loop-word-test.true c.from_le_bytes.ensures in
+    line_more _ _ _ _ _ _ _ _ (rw more at c.loop-word.invariant) c.in-Ok.closing c.in-Ok.ensures c.in_ok-writeln-in-Ok.ensures.bytes
 
 pub returns : goal.returns
-returns g c =
-    let o = c.args.count.now in
-    let bs = c.args.bytes.now in
-    line_none (signals_of o) (kinds_of o) (state_of g.B.Board.present c.loop-k.count) _ (string_bytes c.loop-k.out) _ (words_done bs (length bs / 8) c.loop-k.k c.loop-k-test.false) c.loop-k.invariant.2
+returns g c = line_none g.B.Board.present c.loop-word.count _ _ (rw (words_done _ _ c.loop-word-test.false) at c.loop-word.invariant)

@@ -1,14 +1,10 @@
-use Rattle.std.proofs.Common.{◌≡◌, ◌-◌, ◌/◌, ◌++◌, length, string_bytes}
-use Rattle.count.specs.CountView.{kinds_of, signals_of, state_of}
-use Rattle.run.specs.Input.{words_from, words_of}
-use Rattle.run.specs.Listing.{lines}
+use Rattle.std.proofs.Common.{◌≡◌, ◌++◌, string_bytes}
+use Rattle.run.specs.Input.{words_of}
+use Rattle.run.proofs.Words.{words_after}
+use Rattle.run.proofs.Reacted.{to_come}
 use Rattle.run.proofs.listing.write_lines.Given as goal
 
-abbrev pub invariant-loop-k : goal.invariant-loop-k
-invariant-loop-k g l =
-    (kinds_of l.count ≡ kinds_of l.initial.count)
-    × (signals_of l.count ≡ signals_of l.initial.count)
-    × (string_bytes l.out
-    ++ lines (signals_of l.initial.count) (kinds_of l.initial.count) (state_of g.B.Board.present l.count) (words_from l.bytes (length l.bytes / 8 - l.k) l.k)
-    ≡ string_bytes l.initial.out
-    ++ lines (signals_of l.initial.count) (kinds_of l.initial.count) (state_of g.B.Board.present l.initial.count) (words_of l.bytes))
+abbrev pub invariant-loop-word : goal.invariant-loop-word
+invariant-loop-word g l =
+    string_bytes l.out ++ to_come g.B.Board.present l.count (words_after l.words l.word-index)
+    ≡ string_bytes l.initial.out ++ to_come g.B.Board.present l.initial.count (words_of l.bytes)

@@ -1,15 +1,20 @@
-use Rattle.std.proofs.Common.{refl}
-use Rattle.count.proofs.Sound.{close_keeps, close_finished, after_not_open, never}
+use Rattle.std.proofs.Common.{sym, ap, ◌∙◌, subst}
+use Rattle.count.specs.declared.answers.Phase.{Phase}
+use Rattle.count.specs.Phases.{is_open, is_over}
+use Rattle.count.specs.Calls.{phase_of}
+use Rattle.count.specs.View.{kinds_in, marks_in}
+use Rattle.count.proofs.Sound.{Keeps, close_keeps, close_finished}
 use Rattle.count.proofs.counts.Count.close.Goals as goal
 
-pub invariant_of-self : goal.invariant_of-self
-invariant_of-self g c =
+pub invariant_of-self-clause-legal : goal.invariant_of-self-clause-legal
+invariant_of-self-clause-legal g c =
     let s = c.args.self.now in
-    let o = c.in-None.ensures.live in
-    let f = c.phase_after-self.ensures in
-    record {
-      legal = close_keeps c.phase_after-self.result s.phase c.over-over.result s.rows _ _ f o s.legal c.end.ensures;
-      finished = close_finished c.phase_after-self.result s.phase c.over-over.result s.rows _ _ f c.over-over.ensures o s.legal c.end.ensures;
-      calm = λ h. refl;
-      room = λ h. absurd (never _ h (after_not_open _ _ f));
-    }
+    let u = c.end.new.self in
+    subst (λ (p : Phase). Keeps (is_open p) (kinds_in u) (marks_in u)) (sym (c.from-self.ensures ∙ ap phase_of c.status.ensures))
+    (close_keeps s.phase s.rows u _ c.in_ok-may_close.ensures.live s.legal c.end.ensures)
+
+pub invariant_of-self-clause-finished : goal.invariant_of-self-clause-finished
+invariant_of-self-clause-finished g c =
+    let s = c.args.self.now in
+    let e = c.from-self.ensures ∙ ap phase_of c.status.ensures in
+    λ h. close_finished s.phase s.rows c.end.new.self _ c.in_ok-may_close.ensures.live s.legal c.end.ensures (sym (ap is_over e) ∙ h)

@@ -1,31 +1,26 @@
-use Rattle.std.proofs.Common.{◌-◌, ◌^◌, ◌<◌, true, false, arith}
+use Rattle.std.proofs.Common.{◌≡◌, ℕ, ◌-◌, ◌*◌, ◌%◌, ◌^◌, cond, rules, arith, bit_or, get_or, sym, ap, ◌∙◌}
+use Rattle.std.proofs.lemmas.Option.{same_Some}
+use Rattle.std.proofs.iter.runs.Sources.{range_runs_back}
+use Rattle.rules.specs.Model.{word_from}
 use Rattle.count.specs.CountView.{signals_of}
 use Rattle.count.specs.Calls.{shown_out}
-use Rattle.count.proofs.OutputWords.{word_none, word_fits, word_step}
+use Rattle.count.proofs.OutputWords.{word_made}
 use Rattle.count.proofs.counts.Count.outputs.Goals as goal
-use Rattle.count.proofs.counts.Count.outputs.Goals.{then-is_shown, else-is_shown}
 
-pub loop-s-init : goal.loop-s-init
-loop-s-init g c = word_none _ c.len-n.result
-
-pub overflow_mul-word : goal.overflow_mul-word
-overflow_mul-word g c =
+-- the fold runs over the numbers from the highest down
+pub returns : goal.returns
+returns g c =
     let s = c.args.self.now in
-    let few = s.rows.routine.table.few in
-    omega (arith, c.len-n.ensures, c.loop-s.invariant, word_fits (shown_out (signals_of s) (g.B.Board.present s.board)) (c.len-n.result - c.loop-s.s) c.loop-s.s (omega (arith, few, c.len-n.ensures)))
-
-pub overflow_add-word : goal.overflow_add-word
-overflow_add-word g c =
-    let s = c.args.self.now in
-    let few = s.rows.routine.table.few in
-    let b : c.loop-s.word < 2 ^ 63 = omega (arith, c.len-n.ensures, c.loop-s.invariant, word_fits (shown_out (signals_of s) (g.B.Board.present s.board)) (c.len-n.result - c.loop-s.s) c.loop-s.s (omega (arith, few, c.len-n.ensures))) in
-    elim c.if-is_shown.branch [ then-is_shown w ↦ omega (arith, w.low-is) | else-is_shown w ↦ omega (arith, w.low-is) ]
-
-pub loop-s-preserved : goal.loop-s-preserved
-loop-s-preserved g c =
-    let s = c.args.self.now in
-    let step = word_step (shown_out (signals_of s) (g.B.Board.present s.board)) c.len-n.result c.loop-s.s in
-    elim c.if-is_shown.branch [
-      | then-is_shown w ↦ step true _ _ (omega arith) (omega arith) w.if-is_shown.ensures w.low-is c.loop-s.invariant
-      | else-is_shown w ↦ step false _ _ (omega arith) (omega arith) w.if-is_shown.ensures w.low-is c.loop-s.invariant
-    ]
+    let P = shown_out (signals_of s) (g.B.Board.present s.board) in
+    let t = s.rows.routine.table in
+    let n = c.signals.result in
+    let f = c.fold.ensures.runs in
+    let r = c.rev.ensures.runs f.0 f.0.seen f.1 in
+    let d = range_runs_back r.0 r.0.seen in
+    let top : r.0.from.end ≡ n = ap (λ x. x.end) r.1 in
+    let low : r.0.from.start ≡ 0 = ap (λ x. x.start) r.1 in
+    let long : r.0.len ≡ n = omega (arith, d.1 (r.2.1 ∙ f.2), top, low) in
+    f.3 (λ (w i : ℕ). bit_or (w * 2 % 2 ^ 64) (cond (P i) 1 0)) (λ x y q h k. search rules)
+    ∙ word_made P n f.0.items (omega (arith, c.signals.ensures, t.signals.ok.0, t.few)) (omega (arith, f.0.long, r.2.0.0, long))
+    (λ k l. ap (λ xs. get_or xs k 0) (sym r.2.0.1) ∙ same_Some _ _ (sym (r.0.reads k 0 (omega arith)) ∙ d.3 k (omega arith)) ∙ ap (λ m. m - 1 - k) top)
+    ∙ ap (λ m. word_from P m 0) c.signals.ensures

@@ -4,16 +4,21 @@ use Rattle.count.proofs.rows.Rows.put.Goals as goal
 
 pub invariant_of-self : goal.invariant_of-self
 invariant_of-self c =
-    let t = c.args.self.now.routine.table in
+    let r = c.args.self.now.routine in
+    let t = r.table in
     let v = t.statements in
-    let e = kinds_kept (vec_items v) c.args.i _ _ (omega (arith, v.ok.0)) c.index_mut-row.ensures.value c.set_mark.ensures.kept in
-    ((t.few, (t.some, (t.most, (formed_kept _ _ _ e t.formed, tt)))), (passes_kept _ _ _ e c.args.self.now.routine.passed, tt))
+    let row = c.in-Some.ensures in
+    let within = row.variant.0 refl in
+    let e = kinds_kept (vec_items v) c.args.i _ _ (omega (arith, v.ok.0)) row.value c.set_mark.ensures.kept in
+    ((t.few, (t.some, (t.most, (formed_kept _ _ _ e t.formed, tt)))), (passes_kept _ _ _ e r.passed, tt))
 
-pub returns : goal.returns
-returns c =
+pub returns-in-Some : goal.returns-in-Some
+returns-in-Some c =
     let v = c.args.self.now.routine.table.statements in
+    let row = c.in-Some.ensures in
+    let within = row.variant.0 refl in
     record {
-      kinds = kinds_kept (vec_items v) c.args.i _ _ (omega (arith, v.ok.0)) c.index_mut-row.ensures.value c.set_mark.ensures.kept;
+      kinds = kinds_kept (vec_items v) c.args.i _ _ (omega (arith, v.ok.0)) row.value c.set_mark.ensures.kept;
       signals = refl;
       len = refl;
       marks = marks_set (vec_items v) c.args.i _ _ c.set_mark.ensures.after;

@@ -1,15 +1,18 @@
-use Rattle.std.proofs.Common.{ℕ, ap, ◌∙◌, add-one, arith}
+use Rattle.std.proofs.Common.{◌≡◌, rules, tests, arith, sum_by, vec_items, ◌∙◌}
+use Rattle.std.proofs.lemmas.Iterator.{YieldsList-from_slice}
+use Rattle.std.proofs.lemmas.Iterator.Adapters.{fits_from_length, at_most_from_yields_List}
+use Rattle.routine.specs.declared.kinds.Statement.{Statement}
 use Rattle.routine.specs.Kinds.{shape}
-use Rattle.routine.specs.Meaning.{names, named}
-use Rattle.routine.specs.View.{kinds_of}
+use Rattle.routine.specs.Meaning.{names}
+use Rattle.routine.proofs.Lists.{named_sum}
 use Rattle.routine.proofs.tables.Table.named.Goals as goal
 
-pub loop-k-preserved : goal.loop-k-preserved
-loop-k-preserved c =
-    let ks = kinds_of c.args.self.now in
-    let e = c.names-times.ensures.value ∙ ap (λ k. names (shape k) c.args.a) c.kind.ensures.value in
-    let f = c.loop-k.invariant.0 in
-    (rw add-one (omega arith), omega (arith, c.names-times.ensures.few))
+pub sum-requires-clause-fits : goal.sum-requires-clause-fits
+sum-requires-clause-fits c =
+    fits_from_length _ _ 256 _ (at_most_from_yields_List (YieldsList-from_slice c.args.self.now.statements.items cc) (omega (arith, c.args.self.now.most, c.args.self.now.statements.ok.0))) c.map.ensures.closure (omega arith)
+    (λ x r q k. search (rules, tests))
 
 pub returns : goal.returns
-returns c = c.loop-k.invariant.0 ∙ ap (λ (n : ℕ). named (kinds_of c.args.self.now) n c.args.a) (omega (arith, c.count-k-end.ensures.listed))
+returns c =
+    let e : c.sum.result ≡ sum_by (λ (x : Statement). names (shape x.kind) c.args.a) (vec_items c.args.self.now.statements) = search rules in
+    e ∙ named_sum (vec_items c.args.self.now.statements) c.args.a

@@ -1,11 +1,10 @@
-use Rattle.std.proofs.Common.{length, sym, arith}
-use Rattle.routine.specs.View.{fails, kinds_of}
-use Rattle.routine.proofs.Searches.{lowest_here, lowest_more}
+use Rattle.std.proofs.Common.{true, false, rules, tests}
+use Rattle.std.proofs.lemmas.Iterator.{first_from_Range}
+use Rattle.routine.proofs.Searches.{finds}
 use Rattle.routine.proofs.tables.Table.offender.Goals as goal
 
-pub returns-then-fails : goal.returns-then-fails
-returns-then-fails c =
-    sym (lowest_here (fails c.args.self.now c.args.test) (length (kinds_of c.args.self.now)) c.loop-i.i c.loop-i.invariant (sym c.if-fails.ensures) (omega (arith, c.count-i-end.ensures.listed)))
-
-pub loop-i-preserved : goal.loop-i-preserved
-loop-i-preserved c = lowest_more _ c.loop-i.i c.loop-i.invariant (sym c.if-fails.ensures)
+pub returns : goal.returns
+returns g c =
+    finds (goal.F-post g c.args.fails) c.count.result _ c.find.result c.count.ensures.listed
+    (first_from_Range _ _ _ _ (λ i. goal.F-post g c.args.fails i true) (λ i. goal.F-post g c.args.fails i false) c.find.ensures.ran
+    (λ x q k. search (rules, tests)) (λ x q k. (search (rules, tests), search (rules, tests))))

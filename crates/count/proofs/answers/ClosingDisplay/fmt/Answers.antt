@@ -1,0 +1,6 @@
+use Rattle.std.proofs.Common.{rules}
+use Rattle.rules.proofs.Hexadecimal.{written_hex}
+use Rattle.count.proofs.answers.ClosingDisplay.fmt.Goals as goal
+
+pub returns-clause-writes : goal.returns-clause-writes
+returns-clause-writes g c = search (rules, written_hex)
