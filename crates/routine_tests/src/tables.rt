@@ -1,13 +1,13 @@
-use routine::load;
+use routine::{Routine, load};
 use std::alloc::{AllocError, Global};
 use std::process::Abort;
 use std::test::Fail;
 
-const INPUT: u8 = 0;
+pub(crate) const INPUT: u8 = 0;
 
-const OUTPUT: u8 = 1;
+pub(crate) const OUTPUT: u8 = 1;
 
-const LOCAL: u8 = 2;
+pub(crate) const LOCAL: u8 = 2;
 
 // The bytes of a table: signal kinds, and records of kind, signal, first, second.
 fn table(heap: Global, signals: &[u8], records: &[[u8; 4]]) -> Result<Vec<u8>, Fail> {
@@ -25,6 +25,12 @@ fn table(heap: Global, signals: &[u8], records: &[[u8; 4]]) -> Result<Vec<u8>, F
         bytes.extend_from_slice(record)?;
     }
     Ok(bytes)
+}
+
+// The routine of signal kinds and of records.
+pub(crate) fn routine(heap: Global, signals: &[u8], records: &[[u8; 4]]) -> Result<Routine, Fail> {
+    let bytes = table(heap, signals, records)?;
+    Ok(load(heap, &bytes)?)
 }
 
 fn loads(rt: &(impl Abort + AllocGlobal), bytes: &[u8]) {

@@ -2,6 +2,8 @@
 
 mod input;
 mod listing;
+#[cfg(test)]
+mod tests;
 
 use listing::listing;
 use std::io::Read;
