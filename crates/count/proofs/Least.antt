@@ -1,12 +1,12 @@
 -- one pass down the tree finds the lowest ready statement
-use Rattle.std.proofs.Common.{◌≡◌, ℕ, zero, suc, ◌<◌, ◌≤◌, MatchOption, min, Bool, true, false, cond, not, ◌&&◌, ◌||◌, List, length, Some, None, Option, sym, refl, ap, ◌∙◌, subst, ap₂, inl, inr, arith}
+use Rattle.std.proofs.Common.{◌≡◌, ℕ, ◌<◌, min, Bool, true, false, cond, not, ◌&&◌, ◌||◌, List, length, Some, None, Option, sym, refl, ap, ◌∙◌, subst, inl, inr, arith}
 use native.Mathlib.Decide.{ℕ_discrete, dec_lt}
 use Rattle.routine.specs.declared.kinds.Kind.{Kind}
 use Rattle.routine.specs.Kinds.{Shape, no_part, one_part, two_parts, shape_at}
 use Rattle.routine.specs.Tree.{node, tree_at}
-use Rattle.routine.specs.Search.{or_last, lowest}
+use Rattle.routine.specs.Search.{lowest}
 use Rattle.routine.proofs.Trees.{Part, Rising, unroll, trees, under_below}
-use Rattle.routine.proofs.Searches.{lowest_here}
+use Rattle.routine.proofs.Searches.{lowest_here, lowest_none}
 use Rattle.rules.specs.Rules.{Mark, Signals, Leaf, Two, Tree, leaf, one, two, at, over, ready, leaf_rule, one_rule, two_rule, shut, pick}
 use Rattle.rules.proofs.Steps.{unready}
 use Rattle.rules.proofs.Table.{in_under}
@@ -16,19 +16,9 @@ abbrev IsLeast : (ℕ → Bool) → ℕ → Option ℕ → Type 0
 IsLeast P n None = (k : ℕ) → k < n → P k ≡ false
 IsLeast P n (Some i) = (i < n) × (P i ≡ true) × ((k : ℕ) → k < i → P k ≡ false)
 
-pub all_false : (P : ℕ → Bool) (n : ℕ) → ((k : ℕ) → k < n → P k ≡ false) → lowest P n ≡ None
-all_false P zero h = refl
-all_false P (suc n) h = ap₂ (λ (o : Option ℕ) (b : Bool). or_last o b n) (all_false P n (λ k l. h k (omega arith))) (h n (omega arith))
-
 is_lowest : (P : ℕ → Bool) (n : ℕ) (o : Option ℕ) → IsLeast P n o → o ≡ lowest P n
-is_lowest P n None h = sym (all_false P n h)
-is_lowest P n (Some i) h = sym (lowest_here P n i (all_false P i h.2) h.1 h.0)
-
--- the same, from what a search from 0 on says of each number
-pub found_lowest : (P : ℕ → Bool) (n : ℕ) (o : Option ℕ)
-    → MatchOption o ((k : ℕ) → 0 ≤ k → k < n → P k ≡ false) (λ i. (0 ≤ i) × (i < n) × (P i ≡ true) × ((k : ℕ) → 0 ≤ k → k < i → P k ≡ false)) → o ≡ lowest P n
-found_lowest P n None h = is_lowest P n None (λ k l. h k (omega arith) l)
-found_lowest P n (Some i) h = is_lowest P n (Some i) (h.1, h.2, λ k l. h.3 k (omega arith) l)
+is_lowest P n None h = sym (lowest_none P n h)
+is_lowest P n (Some i) h = sym (lowest_here P n i (lowest_none P i h.2) h.1 h.0)
 
 same_least : (P Q : ℕ → Bool) (n : ℕ) (o : Option ℕ) → ((k : ℕ) → P k ≡ Q k) → IsLeast Q n o → IsLeast P n o
 same_least P Q n None e h = λ k l. e k ∙ h k l

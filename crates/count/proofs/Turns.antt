@@ -16,7 +16,7 @@ use Rattle.count.specs.declared.answers.Phase.{Phase}
 use Rattle.count.specs.declared.answers.Phase.TheVariants.{Open}
 use Rattle.count.specs.State.{State}
 use Rattle.count.specs.Calls.{one_more, step_state, turn, run_of, begin_state, close_refusal, close_state, react_state, still_ready}
-use Rattle.count.proofs.Least.{all_false}
+use Rattle.routine.proofs.Searches.{lowest_none}
 use Rattle.count.proofs.Sound.{same_phase}
 
 abbrev at : State → Config
@@ -113,7 +113,7 @@ module _ (gs : List SignalKind) (ks : List Kind) (C : Checked gs ks) (few : leng
 
   pub closes : close_refusal ks final ≡ None
   closes =
-      ap still_ready (all_false (ready (tree_at ks 0) (settled ks (enough ks) c₀).0 (settled ks (enough ks) c₀).1) (length ks)
+      ap still_ready (lowest_none (ready (tree_at ks 0) (settled ks (enough ks) c₀).0 (settled ks (enough ks) c₀).1) (length ks)
       (λ k l. not_true _ ((instant_ends gs ks C).model_quiet c₀ L k)))
     where
       not_true : (b : Bool) → (b ≡ true → ⊥) → b ≡ false
