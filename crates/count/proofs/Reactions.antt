@@ -5,12 +5,12 @@ use Rattle.routine.specs.declared.kinds.SignalKind.{SignalKind}
 use Rattle.routine.specs.declared.refusals.Refusal.{Refusal}
 use Rattle.rules.specs.Legal.{Legal}
 use Rattle.signals.specs.declared.board.Board.{Ghosts}
-use Rattle.count.specs.declared.answers.Phase.{Phase}
-use Rattle.count.specs.declared.answers.Phase.TheVariants.{Resting, Open, Over}
+use Rattle.record.specs.declared.phases.Phase.{Phase}
+use Rattle.record.specs.declared.phases.Phase.TheVariants.{Resting, Open, Over}
 use Rattle.count.specs.declared.answers.Closing.{Closing}
 use Rattle.count.specs.declared.counts.Count.{Count}
-use Rattle.count.specs.State.{State}
-use Rattle.count.specs.Phases.{is_open}
+use Rattle.record.specs.State.{State}
+use Rattle.record.specs.Phases.{is_open}
 use Rattle.count.specs.Calls.{answer, after, begin_by, begin_refusal, begin_state, close_refusal, closing, close_state, run_of, react_closing, react_state}
 use Rattle.count.specs.CountView.{kinds_of, signals_of, state_of, SameRoutine, Does, Closes, Reacts}
 use Rattle.count.proofs.Sound.{checked, kinds_many, begin_sound, legal}

@@ -23,9 +23,9 @@ use Rattle.rules.proofs.Checked.{table, of_routine}
 use Rattle.rules.proofs.Stays.{marks_stay_legal}
 use Rattle.count.specs.declared.rows.Rows.{Rows}
 use Rattle.count.specs.View.{kinds_in, marks_in, signals_in, count_in, tree_in, Marked}
-use Rattle.count.specs.declared.answers.Phase.{Phase}
-use Rattle.count.specs.Phases.{is_open, is_over}
-use Rattle.count.specs.Calls.{phase_after, phase_of}
+use Rattle.record.specs.declared.phases.Phase.{Phase}
+use Rattle.record.specs.Phases.{is_open, is_over, phase_of}
+use Rattle.count.specs.Calls.{phase_after}
 use Rattle.count.specs.Machine.{least_ready, applies, heard}
 use Rattle.rules.proofs.Inward.{own_rule}
 use Rattle.count.proofs.RowLists.{marks_length}

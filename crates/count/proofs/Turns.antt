@@ -12,9 +12,9 @@ use Rattle.rules.specs.Legal.{Legal}
 use Rattle.rules.specs.Model.{Config, stepped, lowest_ready, turned, first_then, settled, path, enough, instant}
 use Rattle.rules.specs.Theorems.{Checked}
 use Rattle.rules.proofs.Promises.{instant_ends}
-use Rattle.count.specs.declared.answers.Phase.{Phase}
-use Rattle.count.specs.declared.answers.Phase.TheVariants.{Open}
-use Rattle.count.specs.State.{State}
+use Rattle.record.specs.declared.phases.Phase.{Phase}
+use Rattle.record.specs.declared.phases.Phase.TheVariants.{Open}
+use Rattle.record.specs.State.{State}
 use Rattle.count.specs.Calls.{one_more, step_state, turn, run_of, begin_state, close_refusal, close_state, react_state, still_ready}
 use Rattle.routine.proofs.Searches.{lowest_none}
 use Rattle.count.proofs.Sound.{same_phase}

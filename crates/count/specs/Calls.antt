@@ -11,12 +11,12 @@ use Rattle.routine.specs.Tree.{tree_at}
 use Rattle.routine.specs.Meaning.{is_input, signal_at}
 use Rattle.rules.specs.Rules.{Signals, over, ready, fire, effect_of, apply, ended}
 use Rattle.rules.specs.Model.{is_output, outputs_of, status_of, first_marks, Outcome, instant}
-use Rattle.rules.specs.declared.status.Status.{Status}
-use Rattle.rules.specs.declared.status.Status.TheVariants.{Suspended, Terminated}
-use Rattle.count.specs.declared.answers.Phase.{Phase}
-use Rattle.count.specs.declared.answers.Phase.TheVariants.{Resting, Open, Over}
+
+use Rattle.record.specs.declared.phases.Phase.{Phase}
+use Rattle.record.specs.declared.phases.Phase.TheVariants.{Resting, Open, Over}
 use Rattle.count.specs.declared.answers.Closing.{Closing}
-use Rattle.count.specs.State.{State}
+use Rattle.record.specs.Phases.{phase_of}
+use Rattle.record.specs.State.{State}
 
 -- refused for a reason, or else x
 abbrev pub answer : {X : Type 0} → Option Refusal → X → Result X Refusal
@@ -128,10 +128,6 @@ closing_of closed o = record { instant = closed + 1; outputs = o.outputs; status
 
 abbrev pub react_closing : List SignalKind → List Kind → State → ℕ → Closing
 react_closing gs ks s word = closing_of s.closed (instant gs ks s.marks word)
-
-abbrev pub phase_of : Status → Phase
-phase_of Suspended = Resting
-phase_of Terminated = Over
 
 abbrev pub rested : ℕ → Outcome → State
 rested closed o = record { phase = phase_of o.status; closed = closed + 1; steps = 0; marks = o.marks; present = empty }

@@ -6,7 +6,7 @@ use Rattle.routine.specs.declared.refusals.Refusal.{Refusal}
 use Rattle.signals.specs.declared.board.Board.{Ghosts}
 use Rattle.count.specs.declared.answers.Closing.{Closing}
 use Rattle.count.specs.declared.counts.Count.{Count}
-use Rattle.count.specs.State.{State}
+use Rattle.record.specs.State.{State}
 use Rattle.count.specs.View.{kinds_in, marks_in, signals_in}
 use Rattle.count.specs.Calls.{answer, after, begin_refusal, begin_state, step_refusal, step_state, close_refusal, closing, close_state, react_closing, react_state}
 

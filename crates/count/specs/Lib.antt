@@ -1,7 +1,5 @@
-pub mod Phases
 pub mod View
 pub mod Machine
-pub mod State
 pub mod Calls
 pub mod CountView
 pub mod Texts

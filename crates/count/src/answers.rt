@@ -4,14 +4,6 @@ ghost use Rattle.count.specs.Texts.{closing_text};
 use rules::Status;
 use std::fmt;
 
-// Where a count stands: between instants, in an open instant, or at the routine's end.
-#[derive(Clone, Copy, Debug, PartialEq, Eq)]
-pub enum Phase {
-    Resting,
-    Open,
-    Over,
-}
-
 // What a closed instant answers: its number, the word of present outputs, the status, the steps.
 #[derive(Clone, Copy, Debug, PartialEq, Eq)]
 pub struct Closing {

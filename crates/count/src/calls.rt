@@ -2,15 +2,16 @@ ghost use Rattle.std.specs.Prelude.{◌≡◌, ◌*◌, ◌<◌, true, false, le
 ghost use Rattle.routine.specs.View.{kinds_of as kinds_read, signals_of as signals_read};
 ghost use Rattle.rules.specs.Rules.{over, ready};
 ghost use Rattle.rules.specs.Model.{outputs_of, status_of};
-ghost use Rattle.count.specs.Phases.{is_open};
+ghost use Rattle.record.specs.Phases.{is_open};
 ghost use Rattle.count.specs.View.{marks_in, count_in, tree_in};
 ghost use Rattle.count.specs.Calls.{answer, run_of, new_state, stray, first_stray, begin_refusal, step_refusal, step_state, close_refusal, shown_out};
 ghost use Rattle.count.specs.CountView.{kinds_of, signals_of, state_of, SameRoutine, Begins, Steps, Closes, Reacts};
 
-use crate::answers::{Closing, Phase};
+use crate::answers::Closing;
 use crate::counts::Count;
 use crate::rows::Rows;
 use crate::words;
+use record::Phase;
 use routine::{Kind, Refusal, Routine, SignalKind};
 use rules::Status;
 use signals::Board;

@@ -2,11 +2,11 @@ ghost use Rattle.std.specs.Prelude.{◌≡◌, ℕ, ◌<◌, true, false, length
 ghost use Rattle.routine.specs.Tree.{tree_at};
 ghost use Rattle.rules.specs.Rules.{over};
 ghost use Rattle.rules.specs.Legal.{keeps};
-ghost use Rattle.count.specs.Phases.{is_open, is_over};
+ghost use Rattle.record.specs.Phases.{is_open, is_over};
 ghost use Rattle.count.specs.View.{kinds_in, marks_in};
 
-use crate::answers::Phase;
 use crate::rows::Rows;
+use record::Phase;
 use signals::Board;
 
 // A routine at work: its statements with their marks, and the board on which its signals are.

@@ -4,11 +4,11 @@ pub mod answers;
 pub mod calls;
 pub mod counts;
 pub mod machine;
-mod phases;
 pub mod questions;
 pub mod ready;
 pub mod rows;
 mod words;
 
-pub use answers::{Closing, Phase};
+pub use answers::Closing;
 pub use counts::Count;
+pub use record::Phase;

@@ -4,8 +4,8 @@ ghost use Rattle.routine.specs.Tree.{tree_at};
 ghost use Rattle.rules.specs.Rules.{ready, at};
 ghost use Rattle.count.specs.CountView.{kinds_of, signals_of, state_of};
 
-use crate::answers::Phase;
 use crate::counts::Count;
+use record::Phase;
 use routine::Mark;
 use signals::Board;
 

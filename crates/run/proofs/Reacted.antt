@@ -5,7 +5,7 @@ use Rattle.routine.specs.declared.refusals.Refusal.{Refusal}
 use Rattle.signals.specs.declared.board.Board.{Ghosts}
 use Rattle.count.specs.declared.answers.Closing.{Closing}
 use Rattle.count.specs.declared.counts.Count.{Count}
-use Rattle.count.specs.State.{State}
+use Rattle.record.specs.State.{State}
 use Rattle.count.specs.Calls.{answer, after}
 use Rattle.count.specs.CountView.{kinds_of, signals_of, state_of, Reacts}
 use Rattle.run.specs.Listing.{closing_line, refused_line, line_of, lines}

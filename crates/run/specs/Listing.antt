@@ -9,7 +9,7 @@ use Rattle.routine.specs.Refusals.{refusal_line}
 use Rattle.routine.specs.Texts.{line_end}
 use Rattle.routine.specs.View.{load_of}
 use Rattle.count.specs.declared.answers.Closing.{Closing}
-use Rattle.count.specs.State.{State}
+use Rattle.record.specs.State.{State}
 use Rattle.count.specs.Texts.{closing_text}
 use Rattle.count.specs.Calls.{new_state, begin_refusal, react_closing, react_state}
 use Rattle.run.specs.Input.{table_part, word_part, words_of}

@@ -1,7 +1,6 @@
 use Rattle.std.proofs.Common.{sym, ap, ◌∙◌, subst}
-use Rattle.count.specs.declared.answers.Phase.{Phase}
-use Rattle.count.specs.Phases.{is_open, is_over}
-use Rattle.count.specs.Calls.{phase_of}
+use Rattle.record.specs.declared.phases.Phase.{Phase}
+use Rattle.record.specs.Phases.{is_open, is_over, phase_of}
 use Rattle.count.specs.View.{kinds_in, marks_in}
 use Rattle.count.proofs.Sound.{Keeps, close_keeps, close_finished}
 use Rattle.count.proofs.counts.Count.close.Goals as goal

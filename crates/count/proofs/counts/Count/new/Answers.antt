@@ -1,7 +1,7 @@
 use Rattle.std.proofs.Common.{Bool, List, ap₂}
 use Rattle.rules.specs.Rules.{Mark}
-use Rattle.count.specs.declared.answers.Phase.TheVariants.{Resting}
-use Rattle.count.specs.State.{State}
+use Rattle.record.specs.declared.phases.Phase.TheVariants.{Resting}
+use Rattle.record.specs.State.{State}
 use Rattle.count.proofs.Sound.{new_keeps, begun_anew}
 use Rattle.count.proofs.counts.Count.new.Goals as goal
 

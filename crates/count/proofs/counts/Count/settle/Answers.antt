@@ -1,8 +1,8 @@
 use Rattle.std.proofs.Common.{◌+◌, ◌-◌, ◌*◌, List, length, ap, ◌∙◌, ap₂, arith}
 use Rattle.routine.specs.declared.kinds.Kind.{Kind}
 use Rattle.rules.specs.Rules.{ready}
-use Rattle.count.specs.Phases.{is_open}
-use Rattle.count.specs.State.{State}
+use Rattle.record.specs.Phases.{is_open}
+use Rattle.record.specs.State.{State}
 use Rattle.count.specs.View.{marks_in, tree_in}
 use Rattle.count.specs.CountView.{kinds_of, state_of}
 use Rattle.count.specs.Calls.{run_of}

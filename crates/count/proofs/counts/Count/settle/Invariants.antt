@@ -1,5 +1,5 @@
 use Rattle.std.proofs.Common.{◌≡◌, ◌-◌, ◌*◌, true, length}
-use Rattle.count.specs.Phases.{is_open}
+use Rattle.record.specs.Phases.{is_open}
 use Rattle.count.specs.CountView.{kinds_of, state_of, SameRoutine}
 use Rattle.count.specs.Calls.{run_of}
 use Rattle.count.proofs.counts.Count.settle.Given as goal

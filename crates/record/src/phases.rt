@@ -1,8 +1,15 @@
 ghost use Rattle.std.specs.Prelude.{◌≡◌};
-ghost use Rattle.count.specs.Calls.{phase_of};
+ghost use Rattle.record.specs.Phases.{phase_of};
 
-use crate::answers::Phase;
 use rules::Status;
+
+// Where a count stands: between instants, in an open instant, or at the routine's end.
+#[derive(Clone, Copy, Debug, PartialEq, Eq)]
+pub enum Phase {
+    Resting,
+    Open,
+    Over,
+}
 
 // Where a closed instant of that status leaves the count.
 impl From<Status> for Phase {

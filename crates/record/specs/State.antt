@@ -1,7 +1,7 @@
 -- what a count is at: it has the board's set, and not the board
 use Rattle.std.specs.Prelude.{ℕ, List}
 use Rattle.rules.specs.Rules.{Mark, Signals}
-use Rattle.count.specs.declared.answers.Phase.{Phase}
+use Rattle.record.specs.declared.phases.Phase.{Phase}
 
 pub record State : Type 0 where
   pub phase : Phase

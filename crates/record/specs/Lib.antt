@@ -1,0 +1,4 @@
+pub mod Phases
+pub mod State
+pub mod Record
+pub mod Taking

@@ -1,0 +1,5 @@
+#![tactic(auto)]
+
+pub mod phases;
+
+pub use phases::Phase;
