@@ -1,0 +1,5 @@
+#![tactic(auto)]
+
+pub mod calls;
+
+pub use calls::Call;
