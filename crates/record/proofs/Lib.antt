@@ -1,0 +1,3 @@
+pub mod Arrays
+pub mod Forms
+pub mod Lists

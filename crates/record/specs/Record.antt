@@ -1,10 +1,11 @@
 -- the hand-over record: 279 bytes that say what a count is at
-use Rattle.std.specs.Prelude.{ℕ, ◌-◌, List, ◌∷◌, ◌++◌, map, replicate, slice_index_or, false}
+use Rattle.std.specs.Prelude.{ℕ, ◌-◌, List, ◌∷◌, ◌++◌, map, replicate, slice_index_or, slice_index, false, cond, nat_lt}
 use Rattle.std.specs.Int.{w16, w32, w64, to_le_bytes}
-use Rattle.rules.specs.Rules.{Mark, idle, waiting, underway, done, Signals}
+use Rattle.rules.specs.Rules.{Mark, idle, waiting, underway, done, Signals, at}
 use Rattle.rules.specs.Model.{word_from}
 use Rattle.record.specs.declared.phases.Phase.{Phase}
 use Rattle.record.specs.declared.phases.Phase.TheVariants.{Resting, Open, Over}
+use Rattle.record.specs.declared.heads.Head.{Head}
 use Rattle.record.specs.State.{State}
 
 abbrev pub phase_byte : Phase → ℕ
@@ -34,14 +35,23 @@ word_written Open g e = word_from (λ s. slice_index_or e s false) g 0
 word_written Over g e = 0
 
 -- the head: phase, closed instants, steps, present signals
-abbrev pub head_bytes : Phase → ℕ → ℕ → ℕ → List ℕ
-head_bytes phase closed steps word = phase_byte phase ∷ (to_le_bytes w32 closed ++ (to_le_bytes w16 steps ++ to_le_bytes w64 word))
+abbrev pub head_bytes : Head → List ℕ
+head_bytes h = phase_byte h.phase ∷ (to_le_bytes w32 h.closed ++ (to_le_bytes w16 h.steps ++ to_le_bytes w64 h.present))
 
--- then n marks, and zeros up to the end
+abbrev pub head_of : ℕ → State → Head
+head_of g s = record { phase = s.phase; closed = s.closed; steps = steps_written s.phase s.steps; present = word_written s.phase g s.present }
+
+-- n marks, and zeros up to the end
 abbrev pub mark_bytes : ℕ → List Mark → List ℕ
 mark_bytes n ms = map mark_byte ms ++ replicate (256 - n) 0
 
+unfoldable pub written : ℕ → Head → List Mark → List ℕ
+written n h ms = contents n ++ (head_bytes h ++ mark_bytes n ms)
+
+-- the same place by place, for those contents and that head: beyond the last mark as if idle ones followed
+abbrev pub byte_at : List ℕ → List ℕ → List Mark → ℕ → ℕ
+byte_at cs hs ms i = cond (nat_lt i 8) (slice_index cs i) (cond (nat_lt i 23) (slice_index hs (i - 8)) (mark_byte (at ms (i - 23))))
+
 -- the record of a count with g signals and n statements
 abbrev pub record_of : ℕ → ℕ → State → List ℕ
-record_of g n s =
-    contents n ++ (head_bytes s.phase s.closed (steps_written s.phase s.steps) (word_written s.phase g s.present) ++ mark_bytes n s.marks)
+record_of g n s = written n (head_of g s) s.marks

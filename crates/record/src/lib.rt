@@ -1,5 +1,11 @@
 #![tactic(auto)]
 
+mod candidates;
+pub mod heads;
+mod marks;
 pub mod phases;
+pub mod records;
 
+pub use heads::Head;
 pub use phases::Phase;
+pub use records::Saved;

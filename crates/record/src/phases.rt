@@ -1,5 +1,7 @@
 ghost use Rattle.std.specs.Prelude.{◌≡◌};
 ghost use Rattle.record.specs.Phases.{phase_of};
+ghost use Rattle.record.specs.Record.{phase_byte};
+ghost use Rattle.record.specs.Taking.{phase_in};
 
 use rules::Status;
 
@@ -19,6 +21,33 @@ impl From<Status> for Phase {
         match status {
             Status::Suspended => Phase::Resting,
             Status::Terminated => Phase::Over,
+        }
+    }
+}
+
+// How a record writes it.
+impl From<Phase> for u8 {
+    ghost from_gives = { λ p b. b ≡ phase_byte p };
+
+    fn from(phase: Phase) -> u8 {
+        match phase {
+            Phase::Resting => 0,
+            Phase::Open => 1,
+            Phase::Over => 2,
+        }
+    }
+}
+
+impl Phase {
+    // The phase that a record writes so.
+    pub fn from_byte(byte: u8) -> Option<Phase>
+        ensures { result ≡ phase_in byte }
+    {
+        match byte {
+            0 => Some(Phase::Resting),
+            1 => Some(Phase::Open),
+            2 => Some(Phase::Over),
+            _ => None,
         }
     }
 }

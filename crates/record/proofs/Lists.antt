@@ -1,0 +1,21 @@
+-- how many statements and marks a table has
+use Rattle.std.proofs.Common.{◌≡◌, ℕ, ◌≤◌, List, length, vec_items, vec_len, sym, ◌∙◌, arith}
+use Rattle.std.proofs.lemmas.List.{length-map}
+use Rattle.routine.specs.declared.kinds.Statement.{Statement}
+use Rattle.routine.specs.declared.tables.Table.{Table}
+use Rattle.routine.specs.Kinds.{marks}
+use Rattle.routine.specs.View.{kinds_of}
+use Rattle.routine.proofs.Lists.{kinds_length}
+
+pub marks_length : (ss : List Statement) (n : ℕ) → n ≡ length ss → length (marks ss) ≡ n
+marks_length ss n e = length-map ss (λ (r : Statement). r.mark) ∙ sym e
+
+module _ (t : Table) where
+  pub kinds_many : length (kinds_of t) ≡ vec_len t.statements
+  kinds_many = kinds_length (vec_items t.statements) (vec_len t.statements) t.statements.ok.0
+
+  pub marks_many : length (marks (vec_items t.statements)) ≡ length (kinds_of t)
+  marks_many = marks_length (vec_items t.statements) (vec_len t.statements) t.statements.ok.0 ∙ sym kinds_many
+
+  pub few_kinds : length (kinds_of t) ≤ 256
+  few_kinds = let m = kinds_many in let l = t.most in omega arith
