@@ -20,7 +20,7 @@ not_refused : {X : Type 0} (o : Option Refusal) (x y : X) → Ok x ≡ answer o 
 not_refused None x y h = refl
 not_refused (Some e) x y h = absurd (let z : ◌≡◌ {A = ℕ} 0 1 = cc in omega arith)
 
-begun_resting : (p : Phase) (gs : List SignalKind) (n w : ℕ) → begin_by p gs n w ≡ None → is_open p ≡ false
+pub begun_resting : (p : Phase) (gs : List SignalKind) (n w : ℕ) → begin_by p gs n w ≡ None → is_open p ≡ false
 begun_resting Resting gs n w h = refl
 begun_resting Open gs n w h = absurd (let z : ◌≡◌ {A = ℕ} 0 1 = cc in omega arith)
 begun_resting Over gs n w h = refl

@@ -1,0 +1,3 @@
+pub mod Accepted
+pub mod Instants
+pub mod Histories

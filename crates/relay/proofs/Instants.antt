@@ -1,0 +1,170 @@
+-- one call: where it leaves a count, and what it adds to what the model says
+use Rattle.std.proofs.Common.{◌≡◌, ◌≢◌, ℕ, zero, suc, ◌+◌, ◌*◌, ◌≤◌, Bool, true, false, cond, List, [], ◌∷◌, ◌++◌, length, take, map, Some, None, Option, vec_items, sym, refl, ap, ◌∙◌, ap₂, arith}
+use Rattle.std.specs.Prelude.{slice_get}
+use Rattle.std.proofs.lemmas.Bool.{lt-ltb}
+use Rattle.std.proofs.lemmas.List.{length_push}
+use Rattle.std.proofs.lemmas.Option.{same_Some}
+use Rattle.signals.specs.Sets.{word_set}
+use Rattle.routine.specs.declared.kinds.Kind.{Kind}
+use Rattle.routine.specs.declared.kinds.SignalKind.{SignalKind}
+use Rattle.routine.specs.declared.refusals.Refusal.{Refusal}
+use Rattle.routine.specs.Tree.{tree_at}
+use Rattle.routine.proofs.Searches.{none_below}
+use Rattle.rules.specs.Rules.{Mark, over, ready}
+use Rattle.rules.specs.Runs.{Run, still, then, Quiet}
+use Rattle.rules.specs.Legal.{Legal}
+use Rattle.rules.specs.Model.{Config, Ready, stepped, settled, path, enough, Outcome, instant, instants_from, closed}
+use Rattle.rules.specs.Theorems.{Checked}
+use Rattle.rules.proofs.Promises.{instant_ends, ready_below}
+use Rattle.rules.proofs.Stays.{marks_stay_legal}
+use Rattle.rules.proofs.Sums.{same_outcome}
+use Rattle.record.specs.Phases.{is_open}
+use Rattle.record.specs.Taking.{taking_refusal}
+use Rattle.count.specs.Calls.{one_more, phase_after, begin_refusal, begin_state, step_refusal, step_state, close_refusal, close_state, closing, react_closing, react_state}
+use Rattle.count.proofs.Sound.{never, same_phase, after_not_open}
+use Rattle.count.proofs.Reactions.{begun_resting}
+use Rattle.relay.specs.declared.calls.Call.{Call}
+use Rattle.relay.specs.declared.calls.Call.TheVariants.{Begin, Step, Close, React, TakeOver}
+use Rattle.relay.specs.History.{Past, begins, steps, closes, reacts, takes_over, Standing, told, moves, past_of, after_call}
+use Rattle.relay.specs.Promises.{accepted, Ended, ended, left_open}
+use Rattle.relay.proofs.Accepted.{was_ready, none_ready}
+
+-- one step more at the end of a run
+run_push : {S L : Type 0} {Ready : S → L → Type 0} {next : S → L → S} {s z : S} {w : List L} {i : L}
+    → Run Ready next s w z → Ready z i → Run Ready next s (w ++ (i ∷ [])) (next z i)
+run_push still h = then h still
+run_push (then r t) h = then r (run_push t h)
+
+one_more_is : (n : ℕ) → n ≤ 1024 → one_more n ≡ n + 1
+one_more_is n l = ap (λ b. cond b (n + 1) n) (lt-ltb n 65535 (omega arith))
+
+closed_not_open : (b : Bool) → is_open (phase_after b) ≡ false
+closed_not_open b = ap is_open (same_phase b) ∙ after_not_open b
+
+module _ (gs : List SignalKind) (ks : List Kind) (C : Checked gs ks) (few : length ks ≤ 256) where
+  -- the steps v, from the marks ms and the signals of an input word
+  abbrev Runs : List Mark → ℕ → List ℕ → Config → Type 0
+  Runs ms word v x = Run (Ready ks) (stepped ks) (ms, word_set word) v x
+
+  run_legal : {c x : Config} {v : List ℕ} → Run (Ready ks) (stepped ks) c v x → Legal true ks c.0 → Legal true ks x.0
+  run_legal still L = L
+  run_legal {c = c} (then {i = i} r t) L = run_legal t ((marks_stay_legal gs ks C).steps c i L r)
+
+  pub few_steps : (ms : List Mark) (word : ℕ) {v : List ℕ} {x : Config} → Legal true ks ms → Runs ms word v x → length v ≤ 4 * length ks
+  few_steps ms word L r = (instant_ends gs ks C).bounded (ms, word_set word) _ _ L r
+
+  model_runs : (ms : List Mark) (word : ℕ) → Legal true ks ms → Runs ms word (path ks (enough ks) (ms, word_set word)) (settled ks (enough ks) (ms, word_set word))
+  model_runs ms word L = (instant_ends gs ks C).model_runs (ms, word_set word) L
+
+  -- where the calls stand: between instants, at the marks ms and with no word; or in an open instant that began at the marks ms
+  -- with one word, and whose steps so far lead to the marks and the set that the count has
+  pub data Stands (a : Standing) : List Mark → List ℕ → Type 0 where
+    between : is_open a.state.phase ≡ false → Legal false ks a.state.marks → a.stepped ≡ [] → Stands a a.state.marks []
+    inside : {ms : List Mark} {word : ℕ} → is_open a.state.phase ≡ true → Legal true ks ms → Runs ms word a.stepped (a.state.marks, a.state.present)
+        → a.state.steps ≡ length a.stepped → Stands a ms (word ∷ [])
+
+  -- the ended instants es, after n others, are what the model gives for the words ws from the marks ms on, numbered, of few
+  -- steps each; v: the steps of an instant that was left open
+  pub record AsModelFrom (ms : List Mark) (n : ℕ) (ws : List ℕ) (es : List Ended) (v : List ℕ) : Type 0 where
+    pub instants : map (λ (e : Ended). e.outcome) es ≡ take (length es) (instants_from gs ks ms ws)
+    pub numbers : (k : ℕ) (e : Ended) → slice_get es k ≡ Some e → e.instant ≡ n + (k + 1)
+    pub closed_steps : (k : ℕ) (e : Ended) → slice_get es k ≡ Some e → e.outcome.steps ≤ 4 * length ks
+    pub open_steps : length v ≤ 4 * length ks
+
+  -- one instant more in front
+  module _ (ms : List Mark) (n word : ℕ) (o : Outcome) (L : Legal true ks ms) (same : o ≡ instant gs ks ms word) (ws : List ℕ) (es : List Ended) (v : List ℕ)
+      (F : AsModelFrom o.marks (n + 1) ws es v) where
+    abbrev e : Ended
+    e = record { instant = n + 1; outcome = o }
+
+    number : (k : ℕ) (x : Ended) → slice_get (e ∷ es) k ≡ Some x → x.instant ≡ n + (k + 1)
+    number zero x h = ap (λ (y : Ended). y.instant) (sym (same_Some _ x h)) ∙ omega arith
+    number (suc k) x h = let f = F.numbers k x h in omega arith
+
+    bounded : (k : ℕ) (x : Ended) → slice_get (e ∷ es) k ≡ Some x → x.outcome.steps ≤ 4 * length ks
+    bounded zero x h =
+        let f : x.outcome.steps ≡ (instant gs ks ms word).steps = ap (λ (y : Ended). y.outcome.steps) (sym (same_Some _ x h)) ∙ ap (λ (y : Outcome). y.steps) same in
+        let l = few_steps ms word L (model_runs ms word L) in
+        omega arith
+    bounded (suc k) x h = F.closed_steps k x h
+
+    one_ended : AsModelFrom ms n (word ∷ ws) (e ∷ es) v
+    one_ended =
+        record {
+          instants = ap₂ ◌∷◌ same (F.instants ∙ ap (λ (x : Outcome). take (length es) (instants_from gs ks x.marks ws)) same);
+          numbers = number;
+          closed_steps = bounded;
+          open_steps = F.open_steps;
+        }
+
+  -- so it is of the calls from a on, which came to ps
+  abbrev pub Follows : List Mark → List ℕ → Standing → List Past → Type 0
+  Follows ms ws a ps = AsModelFrom ms a.state.closed (ws ++ accepted ps) (ended (length ks) ps) (left_open a.stepped ps)
+
+  -- a call came to p and leads from a to b, and it is so of the calls from a on where it is so of those from b on
+  pub record Leads (a b : Standing) (p : Past) (ms : List Mark) (ws : List ℕ) : Type 0 where
+    pub marks : List Mark
+    pub words : List ℕ
+    pub stands : Stands b marks words
+    pub before : (ps : List Past) → Follows marks words b ps → Follows ms ws a (p ∷ ps)
+
+  by_begin : (a : Standing) (word : ℕ) {ms : List Mark} {ws : List ℕ} → Stands a ms ws → begin_refusal gs a.state word ≡ None
+      → Leads a (record { state = begin_state a.state word; stepped = [] }) (begins word) ms ws
+  by_begin a word (between o L e) h =
+      record { marks = a.state.marks; words = word ∷ []; stands = inside refl ((marks_stay_legal gs ks C).begins a.state.marks L) still refl; before = λ ps F. F }
+  by_begin a word (inside o L r e) h = absurd (never _ o (begun_resting a.state.phase gs a.state.closed word h))
+
+  by_step : (a : Standing) (k : ℕ) {ms : List Mark} {ws : List ℕ} → Stands a ms ws → step_refusal ks a.state k ≡ None
+      → Leads a (record { state = step_state ks a.state k; stepped = a.stepped ++ (k ∷ []) }) (steps k) ms ws
+  by_step a k (between o L e) h = absurd (never _ (was_ready a.state.phase ks a.state k h).0 o)
+  by_step a k (inside {ms = ms} {word = word} o L r e) h =
+      let l = few_steps ms word L r in
+      record {
+        marks = ms;
+        words = word ∷ [];
+        stands = inside o L (run_push r (was_ready a.state.phase ks a.state k h).1) (one_more_is a.state.steps (omega arith) ∙ omega (arith, length_push a.stepped k));
+        before = λ ps F. F;
+      }
+
+  by_close : (a : Standing) {ms : List Mark} {ws : List ℕ} → Stands a ms ws → close_refusal ks a.state ≡ None
+      → Leads a (record { state = close_state ks a.state; stepped = [] }) (closes (closing gs ks a.state) (close_state ks a.state).marks a.stepped) ms ws
+  by_close a (between o L e) h = absurd (never _ (none_ready a.state.phase ks a.state h).0 o)
+  by_close a (inside {ms = ms} {word = word} o L r e) h =
+      let x : Config = (a.state.marks, a.state.present) in
+      let none = none_below (ready (tree_at ks 0) x.0 x.1) (length ks) (none_ready a.state.phase ks a.state h).1 in
+      let quiet : Quiet (Ready ks) x = λ i y. never _ y (none i (ready_below gs ks C i x.0 x.1 y)) in
+      let same = ap (λ (n : ℕ). record (closed gs ks x a.stepped) { steps = n }) e ∙ same_outcome gs ks C ms word x a.stepped L r quiet in
+      record {
+        marks = (close_state ks a.state).marks;
+        words = [];
+        stands = between (closed_not_open (over (tree_at ks 0) a.state.marks)) ((marks_stay_legal gs ks C).ends x (run_legal r L)) refl;
+        before = λ ps F. one_ended ms a.state.closed word _ L same (accepted ps) (ended (length ks) ps) (left_open [] ps) F;
+      }
+
+  by_react : (a : Standing) (word : ℕ) {ms : List Mark} {ws : List ℕ} → Stands a ms ws → begin_refusal gs a.state word ≡ None
+      → Leads a (record { state = react_state gs ks a.state word; stepped = [] })
+      (reacts word (react_closing gs ks a.state word) (react_state gs ks a.state word).marks (path ks (enough ks) (a.state.marks, word_set word))) ms ws
+  by_react a word (between o L e) h =
+      let L' = (marks_stay_legal gs ks C).begins a.state.marks L in
+      let x : Config = settled ks (enough ks) (a.state.marks, word_set word) in
+      record {
+        marks = (react_state gs ks a.state word).marks;
+        words = [];
+        stands = between (after_not_open (over (tree_at ks 0) x.0)) ((marks_stay_legal gs ks C).ends x (run_legal (model_runs a.state.marks word L') L')) refl;
+        before = λ ps F. one_ended a.state.marks a.state.closed word (instant gs ks a.state.marks word) L' refl (accepted ps) (ended (length ks) ps) (left_open [] ps) F;
+      }
+  by_react a word (inside o L r e) h = absurd (never _ o (begun_resting a.state.phase gs a.state.closed word h))
+
+  -- a refused call leads nowhere else
+  unless_refused : (a b : Standing) (p : Past) (o : Option Refusal) {ms : List Mark} {ws : List ℕ} → Stands a ms ws → (o ≡ None → Leads a b p ms ws)
+      → Leads a (moves o a b) (told o p) ms ws
+  unless_refused a b p None S f = f refl
+  unless_refused a b p (Some r) {ms = ms} {ws = ws} S f = record { marks = ms; words = ws; stands = S; before = λ ps F. F }
+
+  pub by_call : (a : Standing) (c : Call) {ms : List Mark} {ws : List ℕ} → Stands a ms ws → past_of gs ks a c ≢ takes_over
+      → Leads a (after_call gs ks a c) (past_of gs ks a c) ms ws
+  by_call a (Begin word) S u = unless_refused a _ _ (begin_refusal gs a.state word) S (by_begin a word S)
+  by_call a (Step k) S u = unless_refused a _ _ (step_refusal ks a.state k) S (by_step a k S)
+  by_call a Close S u = unless_refused a _ _ (close_refusal ks a.state) S (by_close a S)
+  by_call a (React word) S u = unless_refused a _ _ (begin_refusal gs a.state word) S (by_react a word S)
+  by_call a (TakeOver bytes) S u = unless_refused a _ _ (taking_refusal gs ks (vec_items bytes)) S (λ h. absurd (u (ap (λ (o : Option Refusal). told o takes_over) h)))
