@@ -5,3 +5,4 @@ pub mod Sound
 pub mod OutputWords
 pub mod Turns
 pub mod Reactions
+pub mod Presence

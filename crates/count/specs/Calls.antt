@@ -11,7 +11,6 @@ use Rattle.routine.specs.Tree.{tree_at}
 use Rattle.routine.specs.Meaning.{is_input, signal_at}
 use Rattle.rules.specs.Rules.{Signals, over, ready, fire, effect_of, apply, ended}
 use Rattle.rules.specs.Model.{is_output, outputs_of, status_of, first_marks, Outcome, instant}
-
 use Rattle.record.specs.declared.phases.Phase.{Phase}
 use Rattle.record.specs.declared.phases.Phase.TheVariants.{Resting, Open, Over}
 use Rattle.count.specs.declared.answers.Closing.{Closing}

@@ -1,7 +1,9 @@
 -- the rules as the code takes them: with the presence of a statement's own signal, and the lowest ready statement in one pass
 use Rattle.std.specs.Prelude.{ℕ, min, Bool, true, false, cond, List, Some, None, Option, slice_index_or}
 use Rattle.rules.specs.Rules.{Mark, idle, waiting, underway, done, Leaf, nothing, stop, emit, wait, One, loop, kill, local, Two, sequence, parallel, when, Tree, leaf, one, two}
-use Rattle.rules.specs.Rules.{Signals, at, over, one_rule, shut}
+use Rattle.routine.specs.declared.kinds.Kind.{Kind}
+use Rattle.routine.specs.declared.kinds.Kind.TheVariants.{Nothing, Stop, Emit, Wait, Sequence, Parallel, Loop, When, Kill, Local}
+use Rattle.rules.specs.Rules.{Signals, at, over, one_rule, shut, Effect, quiet, raises, drops}
 
 -- the statement's own signal is present
 abbrev pub leaf_heard : Leaf → Signals → Bool
@@ -47,6 +49,19 @@ abbrev pub applies : Tree → List Mark → Bool → Bool
 applies (leaf n k) ms h = leaf_applies (at ms n) k h
 applies (one n k p) ms h = one_rule (at ms n) k (over p ms)
 applies (two n k p q) ms h = two_applies (at ms n) k (over p ms) h
+
+-- what the step of a statement of that kind does to the signals
+abbrev pub kind_effect : Kind → Effect
+kind_effect Nothing = quiet
+kind_effect Stop = quiet
+kind_effect (Emit s) = raises s
+kind_effect (Wait s) = quiet
+kind_effect (Sequence a b) = quiet
+kind_effect (Parallel a b) = quiet
+kind_effect (Loop a) = quiet
+kind_effect (When s a b) = quiet
+kind_effect (Kill s a) = quiet
+kind_effect (Local s a) = drops s
 
 -- the lower of two numbers, where there are any
 abbrev pub lower_of : Option ℕ → Option ℕ → Option ℕ

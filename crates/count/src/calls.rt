@@ -1,4 +1,4 @@
-ghost use Rattle.std.specs.Prelude.{◌≡◌, ◌*◌, ◌<◌, true, false, length, OnOk};
+ghost use Rattle.std.specs.Prelude.{◌≡◌, ◌*◌, ◌<◌, true, false, length, None, OnOk};
 ghost use Rattle.routine.specs.View.{kinds_of as kinds_read, signals_of as signals_read};
 ghost use Rattle.rules.specs.Rules.{over, ready};
 ghost use Rattle.rules.specs.Model.{outputs_of, status_of};
@@ -12,7 +12,7 @@ use crate::counts::Count;
 use crate::rows::Rows;
 use crate::words;
 use record::Phase;
-use routine::{Kind, Refusal, Routine, SignalKind};
+use routine::{Refusal, Routine, SignalKind};
 use rules::Status;
 use signals::Board;
 
@@ -53,6 +53,7 @@ impl<B: Board> Count<B> {
 
     fn may_begin(&self, word: u64) -> Result<(), Refusal>
         ensures room { OnOk result ((self.now.closed < 4294967295) × (is_open self.now.phase ≡ false)) }
+        ensures inputs { OnOk result (first_stray (signals_of self.now) word ≡ None) }
         ensures why { result ≡ answer (begin_refusal (signals_of self.now) (state_of B.present self.now) word) tt }
     {
         match self.phase {
@@ -105,11 +106,7 @@ impl<B: Board> Count<B> {
         let kind = self.rows.kind(k);
         let here = self.here(k);
         self.rows.fire(k, here);
-        match kind {
-            Kind::Emit { signal } => self.board.raise(signal),
-            Kind::Local { signal, .. } => self.board.lower(signal),
-            _ => {}
-        }
+        words::take_effect(&mut self.board, kind);
         self.steps = self.steps.saturating_add(1);
     }
 

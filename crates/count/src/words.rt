@@ -1,7 +1,10 @@
 ghost use Rattle.std.specs.Prelude.{◌≡◌, ◌<◌};
 ghost use Rattle.signals.specs.Sets.{word_set};
+ghost use Rattle.rules.specs.Rules.{apply};
 ghost use Rattle.count.specs.Calls.{bit};
+ghost use Rattle.count.specs.Machine.{kind_effect};
 
+use routine::Kind;
 use signals::Board;
 
 // Is bit s of the word set?
@@ -22,6 +25,17 @@ pub(crate) fn show<B: Board>(board: &mut B, word: u64)
         if has_bit(word, s) {
             board.raise(s);
         }
+    }
+}
+
+// What the step of a statement of that kind does to the signals.
+pub(crate) fn take_effect<B: Board>(board: &mut B, kind: Kind)
+    ensures { B.present board.new ≡ apply (kind_effect kind) (B.present board.old) }
+{
+    match kind {
+        Kind::Emit { signal } => board.raise(signal),
+        Kind::Local { signal, .. } => board.lower(signal),
+        _ => {}
     }
 }
 

@@ -3,6 +3,7 @@ use Rattle.rules.specs.Rules.{Mark}
 use Rattle.record.specs.declared.phases.Phase.TheVariants.{Resting}
 use Rattle.record.specs.State.{State}
 use Rattle.count.proofs.Sound.{new_keeps, begun_anew}
+use Rattle.count.proofs.Presence.{within_empty}
 use Rattle.count.proofs.counts.Count.new.Goals as goal
 
 abbrev start : List Mark → List Bool → State
@@ -13,3 +14,6 @@ invariant_of-result-clause-legal g c = new_keeps _ _ _ c.idle.ensures c.begin.en
 
 pub returns-clause-state : goal.returns-clause-state
 returns-clause-state g c = ap₂ start (begun_anew _ _ _ c.idle.ensures c.begin.ensures) c.wipe.ensures
+
+pub invariant_of-result-clause-within : goal.invariant_of-result-clause-within
+invariant_of-result-clause-within g c = within_empty _ _ c.wipe.ensures
