@@ -6,3 +6,4 @@ pub mod OutputWords
 pub mod Turns
 pub mod Reactions
 pub mod Presence
+pub mod TakenOver

@@ -10,15 +10,13 @@ use Rattle.record.specs.declared.phases.Phase.TheVariants.{Resting, Open, Over}
 use Rattle.count.specs.declared.answers.Closing.{Closing}
 use Rattle.count.specs.declared.counts.Count.{Count}
 use Rattle.record.specs.State.{State}
+use Rattle.record.specs.Answers.{answer}
 use Rattle.record.specs.Phases.{is_open}
-use Rattle.count.specs.Calls.{answer, after, begin_by, begin_refusal, begin_state, close_refusal, closing, close_state, run_of, react_closing, react_state}
+use Rattle.count.specs.Calls.{after, begin_by, begin_refusal, begin_state, close_refusal, closing, close_state, run_of, react_closing, react_state}
 use Rattle.count.specs.CountView.{kinds_of, signals_of, state_of, SameRoutine, Does, Closes, Reacts}
+use Rattle.record.proofs.Answered.{not_refused}
 use Rattle.count.proofs.Sound.{checked, kinds_many, begin_sound, legal}
 use Rattle.count.proofs.Turns.{final, runs_to, closes, leaves}
-
-not_refused : {X : Type 0} (o : Option Refusal) (x y : X) → Ok x ≡ answer o y → o ≡ None
-not_refused None x y h = refl
-not_refused (Some e) x y h = absurd (let z : ◌≡◌ {A = ℕ} 0 1 = cc in omega arith)
 
 pub begun_resting : (p : Phase) (gs : List SignalKind) (n w : ℕ) → begin_by p gs n w ≡ None → is_open p ≡ false
 begun_resting Resting gs n w h = refl

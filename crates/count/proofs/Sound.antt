@@ -28,7 +28,7 @@ use Rattle.record.specs.Phases.{is_open, is_over, phase_of}
 use Rattle.count.specs.Calls.{phase_after}
 use Rattle.count.specs.Machine.{least_ready, applies, heard}
 use Rattle.rules.proofs.Inward.{own_rule}
-use Rattle.count.proofs.RowLists.{marks_length}
+use Rattle.record.proofs.Lists.{marks_many, kinds_many as table_kinds}
 use Rattle.count.proofs.Least.{finds_lowest, leaf_same, two_same}
 
 abbrev pub Keeps : Bool → List Kind → List Mark → Type 0
@@ -39,12 +39,10 @@ module _ (t : Rows) where
   checked = of_routine t.routine
 
   pub many : length (marks_in t) ≡ length (kinds_in t)
-  many =
-      let v = t.routine.table.statements in
-      marks_length (vec_items v) (vec_len v) v.ok.0 ∙ sym (kinds_length (vec_items v) (vec_len v) v.ok.0)
+  many = marks_many t.routine.table
 
   pub kinds_many : length (kinds_in t) ≡ count_in t
-  kinds_many = let v = t.routine.table.statements in kinds_length (vec_items v) (vec_len v) v.ok.0
+  kinds_many = table_kinds t.routine.table
 
   pub some_row : 0 < count_in t
   some_row = t.routine.table.some

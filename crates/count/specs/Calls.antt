@@ -1,5 +1,5 @@
 -- what each call answers, and the state that it leaves
-use Rattle.std.specs.Prelude.{ℕ, zero, suc, ◌+◌, ◌/◌, ◌%◌, ◌^◌, Bool, true, false, cond, not, ◌&&◌, List, length, Some, None, Ok, Err, Option, Result, ◌==◌, nat_lt, slice_index_or}
+use Rattle.std.specs.Prelude.{◌≡◌, ℕ, zero, suc, ◌+◌, ◌/◌, ◌%◌, ◌^◌, Bool, true, false, cond, not, ◌&&◌, List, length, Some, None, Ok, Err, Option, Result, ◌==◌, nat_lt, slice_index_or}
 use Rattle.signals.specs.Sets.{empty, word_set}
 use Rattle.routine.specs.declared.kinds.Kind.{Kind}
 use Rattle.routine.specs.declared.kinds.SignalKind.{SignalKind}
@@ -10,17 +10,12 @@ use Rattle.routine.specs.Search.{lowest}
 use Rattle.routine.specs.Tree.{tree_at}
 use Rattle.routine.specs.Meaning.{is_input, signal_at}
 use Rattle.rules.specs.Rules.{Signals, over, ready, fire, effect_of, apply, ended}
-use Rattle.rules.specs.Model.{is_output, outputs_of, status_of, first_marks, Outcome, instant}
+use Rattle.rules.specs.Model.{word_from, is_output, outputs_of, status_of, first_marks, Outcome, instant}
 use Rattle.record.specs.declared.phases.Phase.{Phase}
 use Rattle.record.specs.declared.phases.Phase.TheVariants.{Resting, Open, Over}
 use Rattle.count.specs.declared.answers.Closing.{Closing}
 use Rattle.record.specs.Phases.{phase_of}
 use Rattle.record.specs.State.{State}
-
--- refused for a reason, or else x
-abbrev pub answer : {X : Type 0} → Option Refusal → X → Result X Refusal
-answer None x = Ok x
-answer (Some e) x = Err e
 
 -- refused: the state before; or else t
 abbrev pub after : Option Refusal → State → State → State
@@ -85,6 +80,10 @@ step_state ks s k =
 -- CLOSE. Signal i is an output and present
 abbrev pub shown_out : List SignalKind → Signals → ℕ → Bool
 shown_out gs e i = is_output (signal_at gs i) && slice_index_or e i false
+
+-- w is the word of the numbers below n of which a test says yes, where the test answers as some P does
+abbrev pub IsWordOf : (ℕ → Bool → Type 0) → ℕ → ℕ → Type 0
+IsWordOf says n w = (P : ℕ → Bool) → ((k : ℕ) (b : Bool) → says k b → b ≡ P k) → w ≡ word_from P n 0
 
 abbrev pub still_ready : Option ℕ → Option Refusal
 still_ready None = None

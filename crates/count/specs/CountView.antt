@@ -1,5 +1,5 @@
 -- a count's state, and what a call does to it
-use Rattle.std.specs.Prelude.{◌≡◌, ℕ, Bool, List, IfErr, Option, Result}
+use Rattle.std.specs.Prelude.{◌≡◌, ℕ, Bool, List, length, IfErr, Option, Result}
 use Rattle.routine.specs.declared.kinds.Kind.{Kind}
 use Rattle.routine.specs.declared.kinds.SignalKind.{SignalKind}
 use Rattle.routine.specs.declared.refusals.Refusal.{Refusal}
@@ -7,8 +7,10 @@ use Rattle.signals.specs.declared.board.Board.{Ghosts}
 use Rattle.count.specs.declared.answers.Closing.{Closing}
 use Rattle.count.specs.declared.counts.Count.{Count}
 use Rattle.record.specs.State.{State}
+use Rattle.record.specs.Answers.{answer}
+use Rattle.record.specs.Taking.{taking_refusal, state_in}
 use Rattle.count.specs.View.{kinds_in, marks_in, signals_in}
-use Rattle.count.specs.Calls.{answer, after, begin_refusal, begin_state, step_refusal, step_state, close_refusal, closing, close_state, react_closing, react_state}
+use Rattle.count.specs.Calls.{after, begin_refusal, begin_state, step_refusal, step_state, close_refusal, closing, close_state, react_closing, react_state}
 
 module _ {B : Type 0} {G : Ghosts B} where
   abbrev pub kinds_of : Count B G → List Kind
@@ -48,3 +50,6 @@ module _ {B : Type 0} {G : Ghosts B} where
   Reacts present c d word r =
       Does present c d r (begin_refusal (signals_of c) (state_of present c) word) (react_closing (signals_of c) (kinds_of c) (state_of present c) word)
       (react_state (signals_of c) (kinds_of c) (state_of present c) word)
+
+  abbrev pub TakesOver : (B → List Bool) → Count B G → Count B G → List ℕ → Result (Unit {0}) Refusal → Type 0
+  TakesOver present c d bytes r = Does present c d r (taking_refusal (signals_of c) (kinds_of c) bytes) tt (state_in (length (kinds_of c)) bytes)

@@ -1,10 +1,11 @@
-ghost use Rattle.std.specs.Prelude.{◌≡◌, ◌*◌, ◌<◌, true, false, length, None, OnOk};
+ghost use Rattle.std.specs.Prelude.{◌≡◌, ◌*◌, ◌<◌, true, false, length, None, OnOk, slice_index_or};
 ghost use Rattle.routine.specs.View.{kinds_of as kinds_read, signals_of as signals_read};
 ghost use Rattle.rules.specs.Rules.{over, ready};
 ghost use Rattle.rules.specs.Model.{outputs_of, status_of};
+ghost use Rattle.record.specs.Answers.{answer};
 ghost use Rattle.record.specs.Phases.{is_open};
 ghost use Rattle.count.specs.View.{marks_in, count_in, tree_in};
-ghost use Rattle.count.specs.Calls.{answer, run_of, new_state, stray, first_stray, begin_refusal, step_refusal, step_state, close_refusal, shown_out};
+ghost use Rattle.count.specs.Calls.{run_of, new_state, stray, first_stray, begin_refusal, step_refusal, step_state, close_refusal, shown_out};
 ghost use Rattle.count.specs.CountView.{kinds_of, signals_of, state_of, SameRoutine, Begins, Steps, Closes, Reacts};
 
 use crate::answers::Closing;
@@ -119,20 +120,25 @@ impl<B: Board> Count<B> {
         Ok(())
     }
 
+    // Is the signal of that number present?
+    pub(crate) fn is_there(&self, s: usize) -> bool
+        ensures { result ≡ slice_index_or (B.present self.now.board) s false }
+    {
+        s < 64 && self.board.ask(s as u8)
+    }
+
     fn is_shown(&self, s: usize) -> bool
         ensures { result ≡ shown_out (signals_of self.now) (B.present self.now.board) s }
     {
         let kind = self.rows.routine.table.signal(s);
-        kind == Some(SignalKind::Output) && self.board.ask(s as u8)
+        kind == Some(SignalKind::Output) && self.is_there(s)
     }
 
     // The word of the present output signals.
     fn outputs(&self) -> u64
         ensures { result ≡ outputs_of (signals_of self.now) (B.present self.now.board) }
     {
-        (0..self.signals())
-            .rev()
-            .fold(0, |word, s| word << 1 | u64::from(self.is_shown(s)))
+        words::word_of(self.signals(), |s| self.is_shown(s))
     }
 
     // The status of the instant if it ends now.

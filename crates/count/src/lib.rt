@@ -6,6 +6,7 @@ pub mod counts;
 pub mod machine;
 pub mod questions;
 pub mod ready;
+pub mod records;
 pub mod rows;
 mod words;
 

@@ -1,4 +1,4 @@
-ghost use Rattle.std.specs.Prelude.{◌≡◌, ◌<◌, true, length, slice_index_or, slice_set};
+ghost use Rattle.std.specs.Prelude.{◌≡◌, ◌<◌, true, length, take, slice_index_or, slice_set};
 ghost use Rattle.routine.specs.Kinds.{shape, kind_at};
 ghost use Rattle.routine.specs.Tree.{node};
 ghost use Rattle.routine.specs.View.{PartsRise};
@@ -15,6 +15,15 @@ impl Rows {
     {
         if let Some(row) = self.routine.table.statements.get_mut(i) {
             row.set_mark(mark);
+        }
+    }
+
+    // Each statement gets its mark of these.
+    pub(crate) fn put_all(&mut self, marks: &[Mark; 256])
+        ensures { Marked self.old self.new (take (count_in self.old) marks.now) }
+    {
+        for i in 0..self.routine.count() {
+            self.put(i, marks[i]);
         }
     }
 

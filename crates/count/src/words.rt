@@ -1,7 +1,7 @@
-ghost use Rattle.std.specs.Prelude.{◌≡◌, ◌<◌};
+ghost use Rattle.std.specs.Prelude.{◌≡◌, ◌<◌, ◌≤◌};
 ghost use Rattle.signals.specs.Sets.{word_set};
 ghost use Rattle.rules.specs.Rules.{apply};
-ghost use Rattle.count.specs.Calls.{bit};
+ghost use Rattle.count.specs.Calls.{bit, IsWordOf};
 ghost use Rattle.count.specs.Machine.{kind_effect};
 
 use routine::Kind;
@@ -13,6 +13,17 @@ pub(crate) fn has_bit(word: u64, s: u8) -> bool
     ensures { result ≡ bit word s }
 {
     (word >> s) & 1 == 1
+}
+
+// The word of the numbers below n of which `has` says yes.
+pub(crate) fn word_of<F: Fn(usize) -> bool>(n: usize, has: F) -> u64
+    requires few { n ≤ 64 }
+    requires asked { F.IsAlwaysCallable has }
+    ensures { IsWordOf (F.post has) n result }
+{
+    (0..n)
+        .rev()
+        .fold(0, |word, s| word << 1 | u64::from(has(s)))
 }
 
 // Leaves exactly the signals of the word present.

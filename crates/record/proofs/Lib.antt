@@ -1,3 +1,4 @@
 pub mod Arrays
 pub mod Forms
 pub mod Lists
+pub mod Answered

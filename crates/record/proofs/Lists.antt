@@ -1,10 +1,12 @@
--- how many statements and marks a table has
-use Rattle.std.proofs.Common.{◌≡◌, ℕ, ◌≤◌, List, length, vec_items, vec_len, sym, ◌∙◌, arith}
+-- how many statements and marks a table has, and the marks of a record
+use Rattle.std.proofs.Common.{◌≡◌, ℕ, ◌+◌, ◌≤◌, List, length, take, slice_index, vec_items, vec_len, sym, ◌∙◌, arith}
 use Rattle.std.proofs.lemmas.List.{length-map}
+use Rattle.std.proofs.lemmas.List.FromFn.{take-map-range_with_len}
 use Rattle.routine.specs.declared.kinds.Statement.{Statement}
 use Rattle.routine.specs.declared.tables.Table.{Table}
 use Rattle.routine.specs.Kinds.{marks}
 use Rattle.routine.specs.View.{kinds_of}
+use Rattle.record.specs.Taking.{mark_in, marks_in}
 use Rattle.routine.proofs.Lists.{kinds_length}
 
 pub marks_length : (ss : List Statement) (n : ℕ) → n ≡ length ss → length (marks ss) ≡ n
@@ -19,3 +21,8 @@ module _ (t : Table) where
 
   pub few_kinds : length (kinds_of t) ≤ 256
   few_kinds = let m = kinds_many in let l = t.most in omega arith
+
+-- the first n marks of a record
+pub marks_cut : (n : ℕ) (bytes : List ℕ) → n ≤ 256 → take n (marks_in 256 bytes) ≡ marks_in n bytes
+unfolding marks_in
+marks_cut n bytes l = take-map-range_with_len (λ i. mark_in (slice_index bytes (23 + i))) 0 256 n l

@@ -8,4 +8,4 @@ pub mod records;
 
 pub use heads::Head;
 pub use phases::Phase;
-pub use records::Saved;
+pub use records::{Saved, read, write};
