@@ -11,7 +11,8 @@ use Rattle.record.specs.State.{State}
 use Rattle.record.specs.Taking.{head_in, taking_refusal, saved_in, marks_in as marks_read, state_in}
 use Rattle.record.proofs.Answered.{not_refused, answered}
 use Rattle.record.proofs.Lists.{few_kinds, marks_cut}
-use Rattle.record.proofs.Trips.{taken_sound}
+use Rattle.record.proofs.Taken.{taken_sound}
+use Rattle.routine.proofs.Whole.{some_statement}
 use Rattle.count.specs.declared.rows.Rows.{Rows}
 use Rattle.count.specs.View.{kinds_in, signals_in, marks_in, count_in, Marked}
 use Rattle.count.proofs.Sound.{kinds_many}
@@ -48,4 +49,4 @@ module _ (t u : Rows) (bytes : List ℕ) (small : (i : ℕ) → get_or bytes i 0
   sound =
       subst (λ (gs : List SignalKind). Sound gs (kinds_in u) here) (sym put.signals)
       (subst (λ (ks : List Kind). Sound (signals_in t) ks here) (sym put.kinds)
-      (subst (Sound (signals_in t) (kinds_in t)) (sym taken) (taken_sound (signals_in t) (kinds_in t) bytes (few_kinds t.routine.table) (few_signals t) small accepted)))
+      (subst (Sound (signals_in t) (kinds_in t)) (sym taken) (taken_sound (signals_in t) (kinds_in t) bytes (some_statement t.routine) small accepted)))

@@ -2,3 +2,10 @@ pub mod Arrays
 pub mod Forms
 pub mod Lists
 pub mod Answered
+pub mod Words
+pub mod Places
+pub mod Fields
+pub mod Accepted
+pub mod Kept
+pub mod Restored
+pub mod Taken
