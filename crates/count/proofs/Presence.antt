@@ -1,5 +1,5 @@
 -- which signals are present after a call
-use Rattle.std.proofs.Common.{◌≡◌, ℕ, ◌<◌, ◌≤◌, ◌≢◌, Bool, true, false, not, ◌&&◌, List, length, None, sym, refl, ap, ◌∙◌, subst, get_or, slice_set, arith}
+use Rattle.std.proofs.Common.{◌≡◌, ℕ, ◌<◌, ◌≢◌, Bool, true, false, not, ◌&&◌, List, length, None, refl, ap, ◌∙◌, get_or, slice_set, arith}
 use Rattle.std.proofs.lemmas.Bool.{ltb-true, and_parts}
 use Rattle.std.proofs.lemmas.List.{get_or-set_other, get_or_past}
 use native.Mathlib.Decide.{dec_lt}
@@ -10,14 +10,13 @@ use Rattle.routine.specs.declared.kinds.SignalKind.TheVariants.{Local as Own}
 use Rattle.routine.specs.Kinds.{shape, kind_at}
 use Rattle.routine.specs.Layout.{fits, Formed}
 use Rattle.routine.specs.Meaning.{is_input}
-use Rattle.routine.specs.Search.{lowest}
 use Rattle.routine.specs.Tree.{Tree, node}
 use Rattle.routine.proofs.Searches.{none_below}
 use Rattle.signals.specs.Sets.{empty, word_set}
 use Rattle.signals.specs.Sizes.{length-word_set}
 use Rattle.signals.proofs.Sets.{get_or-empty, get_or-above}
 use Rattle.signals.proofs.WordSets.{get_or-word_set}
-use Rattle.rules.specs.Rules.{Signals, Effect, effect_of, apply}
+use Rattle.rules.specs.Rules.{Signals, effect_of, apply}
 use Rattle.record.specs.Sound.{Within}
 use Rattle.count.specs.Calls.{bit, stray, first_stray}
 use Rattle.count.specs.Machine.{kind_effect}

@@ -1,10 +1,9 @@
 -- what the calls leave of a count's invariant, over its rows
-use Rattle.std.proofs.Common.{◌≡◌, ℕ, ◌<◌, Bool, true, false, ◌||◌, List, length, replicate, vec_items, vec_len, sym, refl, ap, ◌∙◌, subst, ap₂, arith, ext_get_or}
+use Rattle.std.proofs.Common.{◌≡◌, ℕ, ◌<◌, Bool, true, false, ◌||◌, List, length, replicate, sym, refl, ap, ◌∙◌, subst, ap₂, arith, ext_get_or}
 use lib.ListN.{length-replicate}
 use Rattle.routine.specs.declared.kinds.Kind.{Kind}
 use Rattle.routine.specs.Tree.{tree_at}
 use Rattle.routine.specs.Search.{lowest}
-use Rattle.routine.proofs.Lists.{kinds_length}
 use Rattle.routine.proofs.Whole.{some_statement, rises}
 use Rattle.rules.specs.Rules.{rule, Two, is_done, two_over, two_ended, Mark, idle, Signals, Tree, leaf, one, two, at, begun, idled, over, ready, fire, ended}
 use Rattle.rules.specs.Legal.{Legal, keeps, two_legal}

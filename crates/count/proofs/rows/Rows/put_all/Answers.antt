@@ -1,4 +1,4 @@
-use Rattle.std.proofs.Common.{ℕ, ◌≡◌, subst, ◌∙◌, arith, refl}
+use Rattle.std.proofs.Common.{◌≡◌, subst, ◌∙◌, arith, refl}
 use Rattle.count.proofs.RowLists.{Filled, filled_none, filled_more, filled_all}
 use Rattle.count.proofs.rows.Rows.put_all.Goals as goal
 
