@@ -7,3 +7,4 @@ pub mod Turns
 pub mod Reactions
 pub mod Presence
 pub mod TakenOver
+pub mod Passing

@@ -8,8 +8,10 @@ pub mod questions;
 pub mod ready;
 pub mod records;
 pub mod rows;
+pub mod trips;
 mod words;
 
 pub use answers::Closing;
 pub use counts::Count;
 pub use record::Phase;
+pub use trips::{change_board, forward};

@@ -1,0 +1,33 @@
+-- from one count to another by a record
+use Rattle.std.proofs.Common.{◌≡◌, ℕ, ◌<◌, ◌≤◌, List, length, get_or, Ok, sym, ap, ◌∙◌, ap₂}
+use Rattle.routine.specs.declared.kinds.Kind.{Kind}
+use Rattle.routine.specs.declared.kinds.SignalKind.{SignalKind}
+use Rattle.record.specs.Answers.{answer}
+use Rattle.record.specs.Record.{record_of}
+use Rattle.record.specs.Sound.{Sound}
+use Rattle.record.specs.State.{State}
+use Rattle.record.specs.Taking.{taking_refusal, state_in}
+use Rattle.record.proofs.Answered.{not_refused}
+use Rattle.record.proofs.Kept.{kept}
+use Rattle.record.proofs.Restored.{restored}
+use Rattle.count.specs.Calls.{after}
+
+-- what was taken over is written again as the same bytes
+pub sent_on : (gs hs : List SignalKind) (ks ls : List Kind) (s t : State) (bytes place : List ℕ) (u v : Unit {0}) → length ks ≤ 256 → length gs ≤ 64
+    → ((i : ℕ) → get_or bytes i 0 < 256) → Ok u ≡ answer (taking_refusal gs ks bytes) v → t ≡ after (taking_refusal gs ks bytes) s (state_in (length ks) bytes)
+    → hs ≡ gs → ls ≡ ks → place ≡ record_of (length hs) (length ls) t → Ok place ≡ answer (taking_refusal gs ks bytes) bytes
+sent_on gs hs ks ls s t bytes place u v n g small says leaves e f written =
+    let none = not_refused {X = Unit {0}} (taking_refusal gs ks bytes) u v says in
+    let state : t ≡ state_in (length ks) bytes = leaves ∙ ap (λ o. after o s (state_in (length ks) bytes)) none in
+    ap Ok (written ∙ ap₂ (λ (x y : ℕ). record_of x y t) (ap length e) (ap length f) ∙ ap (record_of (length gs) (length ks)) state ∙ kept gs ks bytes n g small none)
+    ∙ sym (ap (λ o. answer o bytes) none)
+
+-- a sound state comes back from its record
+pub comes_back : (gs hs : List SignalKind) (ks ls : List Kind) (s t u : State) (bytes : List ℕ) → length ks ≤ 256 → length gs ≤ 64 → Sound gs ks s
+    → bytes ≡ record_of (length gs) (length ks) s → hs ≡ gs → ls ≡ ks → u ≡ after (taking_refusal hs ls bytes) t (state_in (length ls) bytes) → u ≡ s
+comes_back gs hs ks ls s t u bytes n g sound written e f leaves =
+    let back = restored gs ks s n g sound in
+    leaves ∙ ap (λ (xs : List SignalKind). after (taking_refusal xs ls bytes) t (state_in (length ls) bytes)) e
+    ∙ ap (λ (ys : List Kind). after (taking_refusal gs ys bytes) t (state_in (length ys) bytes)) f
+    ∙ ap (λ b. after (taking_refusal gs ks b) t (state_in (length ks) b)) written
+    ∙ ap (λ o. after o t (state_in (length ks) (record_of (length gs) (length ks) s))) back.0 ∙ back.1
