@@ -1,4 +1,5 @@
 ghost use Rattle.std.specs.Prelude.{◌≡◌, false, length, if◌then◌else◌, Some, None, nat_lt, slice_index_or};
+ghost use Rattle.routine.specs.Kinds.{kinds, marks};
 ghost use Rattle.routine.specs.Search.{lowest};
 ghost use Rattle.routine.specs.Tree.{tree_at};
 ghost use Rattle.rules.specs.Rules.{ready, at};
@@ -6,7 +7,7 @@ ghost use Rattle.count.specs.CountView.{kinds_of, signals_of, state_of};
 
 use crate::counts::Count;
 use record::Phase;
-use routine::Mark;
+use routine::{Mark, Statement};
 use signals::Board;
 
 // What can be asked of a count; nothing is altered.
@@ -50,6 +51,14 @@ impl<B: Board> Count<B> {
         ensures { result ≡ (if nat_lt i (length (kinds_of self.now)) then Some (at (state_of B.present self.now).marks i) else None) }
     {
         (i < self.rows.routine.count()).then(|| self.rows.mark(i))
+    }
+
+    // Every statement with its mark.
+    pub fn rows(&self) -> &[Statement]
+        ensures kinds { kinds result.now ≡ kinds_of self.now }
+        ensures marks { marks result.now ≡ (state_of B.present self.now).marks }
+    {
+        &self.rows.routine.table.statements
     }
 
     // Would the rules let statement k be stepped, if the instant is open?

@@ -25,7 +25,7 @@ use Rattle.count.proofs.Sound.{never, same_phase, after_not_open}
 use Rattle.count.proofs.Reactions.{begun_resting}
 use Rattle.relay.specs.declared.calls.Call.{Call}
 use Rattle.relay.specs.declared.calls.Call.TheVariants.{Begin, Step, Close, React, TakeOver}
-use Rattle.relay.specs.History.{Past, begins, steps, closes, reacts, takes_over, Standing, told, moves, past_of, after_call}
+use Rattle.relay.specs.History.{Past, begins, steps, closes, reacts, takes_over, Standing, if_accepted, moves, past_of, after_call}
 use Rattle.relay.specs.Promises.{accepted, Ended, ended, left_open}
 use Rattle.relay.proofs.Accepted.{was_ready, none_ready}
 
@@ -157,7 +157,7 @@ module _ (gs : List SignalKind) (ks : List Kind) (C : Checked gs ks) (few : leng
 
   -- a refused call leads nowhere else
   unless_refused : (a b : Standing) (p : Past) (o : Option Refusal) {ms : List Mark} {ws : List ℕ} → Stands a ms ws → (o ≡ None → Leads a b p ms ws)
-      → Leads a (moves o a b) (told o p) ms ws
+      → Leads a (moves o a b) (if_accepted o p) ms ws
   unless_refused a b p None S f = f refl
   unless_refused a b p (Some r) {ms = ms} {ws = ws} S f = record { marks = ms; words = ws; stands = S; before = λ ps F. F }
 
@@ -167,4 +167,4 @@ module _ (gs : List SignalKind) (ks : List Kind) (C : Checked gs ks) (few : leng
   by_call a (Step k) S u = unless_refused a _ _ (step_refusal ks a.state k) S (by_step a k S)
   by_call a Close S u = unless_refused a _ _ (close_refusal ks a.state) S (by_close a S)
   by_call a (React word) S u = unless_refused a _ _ (begin_refusal gs a.state word) S (by_react a word S)
-  by_call a (TakeOver bytes) S u = unless_refused a _ _ (taking_refusal gs ks (vec_items bytes)) S (λ h. absurd (u (ap (λ (o : Option Refusal). told o takes_over) h)))
+  by_call a (TakeOver bytes) S u = unless_refused a _ _ (taking_refusal gs ks (vec_items bytes)) S (λ h. absurd (u (ap (λ (o : Option Refusal). if_accepted o takes_over) h)))

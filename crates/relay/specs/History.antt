@@ -29,9 +29,9 @@ pub record Standing : Type 0 where
   pub state : State
   pub stepped : List ℕ
 
-abbrev pub told : Option Refusal → Past → Past
-told None p = p
-told (Some r) p = refuses r
+abbrev pub if_accepted : Option Refusal → Past → Past
+if_accepted None p = p
+if_accepted (Some r) p = refuses r
 
 abbrev pub moves : {X : Type 0} → Option Refusal → X → X → X
 moves None before later = later
@@ -39,13 +39,13 @@ moves (Some r) before later = before
 
 -- what a call comes to
 abbrev pub past_of : List SignalKind → List Kind → Standing → Call → Past
-past_of gs ks a (Begin word) = told (begin_refusal gs a.state word) (begins word)
-past_of gs ks a (Step k) = told (step_refusal ks a.state k) (steps k)
-past_of gs ks a Close = told (close_refusal ks a.state) (closes (closing gs ks a.state) (close_state ks a.state).marks a.stepped)
+past_of gs ks a (Begin word) = if_accepted (begin_refusal gs a.state word) (begins word)
+past_of gs ks a (Step k) = if_accepted (step_refusal ks a.state k) (steps k)
+past_of gs ks a Close = if_accepted (close_refusal ks a.state) (closes (closing gs ks a.state) (close_state ks a.state).marks a.stepped)
 past_of gs ks a (React word) =
-    told (begin_refusal gs a.state word)
+    if_accepted (begin_refusal gs a.state word)
     (reacts word (react_closing gs ks a.state word) (react_state gs ks a.state word).marks (path ks (enough ks) (a.state.marks, word_set word)))
-past_of gs ks a (TakeOver bytes) = told (taking_refusal gs ks (vec_items bytes)) takes_over
+past_of gs ks a (TakeOver bytes) = if_accepted (taking_refusal gs ks (vec_items bytes)) takes_over
 
 -- and where it leaves the calls
 abbrev pub after_call : List SignalKind → List Kind → Standing → Call → Standing

@@ -1,7 +1,10 @@
 #![tactic(auto)]
 
 pub mod calls;
-pub mod theorem;
+mod counters;
+pub mod events;
+pub mod relays;
 
 pub use calls::Call;
-pub use theorem::every_history;
+pub use events::Event;
+pub use relays::{Relayed, relay};
