@@ -10,7 +10,7 @@ use Rattle.rules.specs.Model.{Outcome, instant, instants_from, first_marks, mode
 use Rattle.rules.specs.Theorems.{Checked}
 use Rattle.rules.proofs.Stays.{marks_stay_legal}
 use Rattle.count.proofs.Sound.{never}
-use Rattle.relay.specs.declared.calls.Call.{Call}
+use Rattle.relay.specs.Asked.{Asked}
 use Rattle.relay.specs.History.{Past, begins, steps, closes, reacts, takes_over, refuses, Standing, past_of, after_call, pasts, after_calls, start}
 use Rattle.relay.specs.Promises.{taken, accepted, Ended, ended, AsModel, AlwaysAsModel, Happened, SameWordsSameInstants}
 use Rattle.relay.proofs.Instants.{few_steps, Stands, between, inside, Follows, by_call}
@@ -24,7 +24,7 @@ untaken takes_over ps t = absurd (never true refl t)
 untaken (refuses r) ps t = (λ h. (cc), t)
 
 -- one list of calls after another
-pasts_append : (gs : List SignalKind) (ks : List Kind) (cs ds : List Call) (a : Standing)
+pasts_append : (gs : List SignalKind) (ks : List Kind) (cs ds : List Asked) (a : Standing)
     → pasts gs ks a (cs ++ ds) ≡ pasts gs ks a cs ++ pasts gs ks (after_calls gs ks a cs) ds
 unfolding pasts after_calls
 pasts_append gs ks [] ds a = refl
@@ -64,7 +64,7 @@ module _ (gs : List SignalKind) (ks : List Kind) (C : Checked gs ks) (few : leng
       so_far (between o L e) = let l = ap length e in omega arith
       so_far (inside {ms = ms} {word = word} o L r e) = few_steps gs ks C few ms word L r
 
-  follows : (cs : List Call) (a : Standing) {ms : List Mark} {ws : List ℕ} → Stands gs ks C few a ms ws → taken (pasts gs ks a cs) ≡ false → From ms ws a (pasts gs ks a cs)
+  follows : (cs : List Asked) (a : Standing) {ms : List Mark} {ws : List ℕ} → Stands gs ks C few a ms ws → taken (pasts gs ks a cs) ≡ false → From ms ws a (pasts gs ks a cs)
   unfolding pasts
   follows [] a S t = no_calls a S
   follows (c ∷ cs) a S t =
@@ -73,7 +73,7 @@ module _ (gs : List SignalKind) (ks : List Kind) (C : Checked gs ks) (few : leng
       let l = by_call gs ks C few a c S u.0 in
       l.before (pasts gs ks b cs) (follows cs b l.stands u.1)
 
-  as_model : (cs : List Call) → taken (pasts gs ks (start ks) cs) ≡ false → AsModel gs ks (pasts gs ks (start ks) cs)
+  as_model : (cs : List Asked) → taken (pasts gs ks (start ks) cs) ≡ false → AsModel gs ks (pasts gs ks (start ks) cs)
   as_model cs t =
       let F = follows cs (start ks) (between refl (marks_stay_legal gs ks C).starts refl) t in
       record { instants = F.instants; numbers = λ k e h. F.numbers k e h ∙ omega arith; closed_steps = F.closed_steps; open_steps = F.open_steps }

@@ -1,5 +1,5 @@
 -- one call: where it leaves a count, and what it adds to what the model says
-use Rattle.std.proofs.Common.{◌≡◌, ◌≢◌, ℕ, zero, suc, ◌+◌, ◌*◌, ◌≤◌, Bool, true, false, cond, List, [], ◌∷◌, ◌++◌, length, take, map, Some, None, Option, vec_items, sym, refl, ap, ◌∙◌, ap₂, arith}
+use Rattle.std.proofs.Common.{◌≡◌, ◌≢◌, ℕ, zero, suc, ◌+◌, ◌*◌, ◌≤◌, Bool, true, false, cond, List, [], ◌∷◌, ◌++◌, length, take, map, Some, None, Option, sym, refl, ap, ◌∙◌, ap₂, arith}
 use Rattle.std.specs.Prelude.{slice_get}
 use Rattle.std.proofs.lemmas.Bool.{lt-ltb}
 use Rattle.std.proofs.lemmas.List.{length_push}
@@ -23,8 +23,7 @@ use Rattle.record.specs.Taking.{taking_refusal}
 use Rattle.count.specs.Calls.{one_more, phase_after, begin_refusal, begin_state, step_refusal, step_state, close_refusal, close_state, closing, react_closing, react_state}
 use Rattle.count.proofs.Sound.{never, same_phase, after_not_open}
 use Rattle.count.proofs.Reactions.{begun_resting}
-use Rattle.relay.specs.declared.calls.Call.{Call}
-use Rattle.relay.specs.declared.calls.Call.TheVariants.{Begin, Step, Close, React, TakeOver}
+use Rattle.relay.specs.Asked.{Asked, begin, step, close, react, take_over}
 use Rattle.relay.specs.History.{Past, begins, steps, closes, reacts, takes_over, Standing, if_accepted, moves, past_of, after_call}
 use Rattle.relay.specs.Promises.{accepted, Ended, ended, left_open}
 use Rattle.relay.proofs.Accepted.{was_ready, none_ready}
@@ -161,10 +160,10 @@ module _ (gs : List SignalKind) (ks : List Kind) (C : Checked gs ks) (few : leng
   unless_refused a b p None S f = f refl
   unless_refused a b p (Some r) {ms = ms} {ws = ws} S f = record { marks = ms; words = ws; stands = S; before = λ ps F. F }
 
-  pub by_call : (a : Standing) (c : Call) {ms : List Mark} {ws : List ℕ} → Stands a ms ws → past_of gs ks a c ≢ takes_over
+  pub by_call : (a : Standing) (c : Asked) {ms : List Mark} {ws : List ℕ} → Stands a ms ws → past_of gs ks a c ≢ takes_over
       → Leads a (after_call gs ks a c) (past_of gs ks a c) ms ws
-  by_call a (Begin word) S u = unless_refused a _ _ (begin_refusal gs a.state word) S (by_begin a word S)
-  by_call a (Step k) S u = unless_refused a _ _ (step_refusal ks a.state k) S (by_step a k S)
-  by_call a Close S u = unless_refused a _ _ (close_refusal ks a.state) S (by_close a S)
-  by_call a (React word) S u = unless_refused a _ _ (begin_refusal gs a.state word) S (by_react a word S)
-  by_call a (TakeOver bytes) S u = unless_refused a _ _ (taking_refusal gs ks (vec_items bytes)) S (λ h. absurd (u (ap (λ (o : Option Refusal). if_accepted o takes_over) h)))
+  by_call a (begin word) S u = unless_refused a _ _ (begin_refusal gs a.state word) S (by_begin a word S)
+  by_call a (step k) S u = unless_refused a _ _ (step_refusal ks a.state k) S (by_step a k S)
+  by_call a close S u = unless_refused a _ _ (close_refusal ks a.state) S (by_close a S)
+  by_call a (react word) S u = unless_refused a _ _ (begin_refusal gs a.state word) S (by_react a word S)
+  by_call a (take_over bytes) S u = unless_refused a _ _ (taking_refusal gs ks bytes) S (λ h. absurd (u (ap (λ (o : Option Refusal). if_accepted o takes_over) h)))

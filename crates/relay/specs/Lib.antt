@@ -1,3 +1,4 @@
+pub mod Asked
 pub mod History
 pub mod Promises
 pub mod View

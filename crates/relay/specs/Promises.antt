@@ -7,7 +7,7 @@ use Rattle.rules.specs.Rules.{Mark}
 use Rattle.rules.specs.Runs.{count}
 use Rattle.rules.specs.Model.{Outcome, each_below, model}
 use Rattle.count.specs.declared.answers.Closing.{Closing}
-use Rattle.relay.specs.declared.calls.Call.{Call}
+use Rattle.relay.specs.Asked.{Asked}
 use Rattle.relay.specs.History.{Past, begins, steps, closes, reacts, takes_over, refuses, history}
 
 -- a take over was accepted
@@ -76,12 +76,12 @@ module _ (gs : List SignalKind) (ks : List Kind) where
 
   -- every history in which each take over is refused
   abbrev pub AlwaysAsModel : Type 0
-  AlwaysAsModel = (cs ds : List Call) → taken (history gs ks cs ds) ≡ false → AsModel (history gs ks cs ds)
+  AlwaysAsModel = (cs ds : List Asked) → taken (history gs ks cs ds) ≡ false → AsModel (history gs ks cs ds)
 
   -- a history of the routine, by calls in any order, in which each take over was refused
   pub record Happened (ps : List Past) : Type 0 where
-    pub before : List Call
-    pub later : List Call
+    pub before : List Asked
+    pub later : List Asked
     pub is : ps ≡ history gs ks before later
     pub untaken : taken ps ≡ false
 

@@ -7,7 +7,7 @@ use Rattle.signals.specs.declared.board.Board.{Ghosts}
 use Rattle.rules.specs.Rules.{Mark}
 use Rattle.count.specs.declared.answers.Closing.{Closing}
 use Rattle.count.specs.CountView.{kinds_of, signals_of, state_of}
-use Rattle.relay.specs.declared.calls.Call.{Call}
+use Rattle.relay.specs.Asked.{Asked}
 use Rattle.relay.specs.declared.events.Event.{Event}
 use Rattle.relay.specs.declared.events.Event.TheVariants.{Begun, Stepped, Closed, Reacted, TakenOver, Refused}
 use Rattle.relay.specs.declared.counters.Counter.{Counter}
@@ -47,21 +47,21 @@ module _ {B : Type 0} {G : Ghosts B} where
   standing_of present c = record { state = state_of present c.count; stepped = vec_items c.stepped }
 
   -- a call on c that comes to an event and leaves d
-  pub record Carries (present : B → List Bool) (c d : Counter B G) (call : Call) (event : Event) : Type 0 where
+  pub record Carries (present : B → List Bool) (c d : Counter B G) (call : Asked) (event : Event) : Type 0 where
     pub tells : tells event ≡ told (past_of (signals_of c.count) (kinds_of c.count) (standing_of present c) call)
     pub leaves : standing_of present d ≡ after_call (signals_of c.count) (kinds_of c.count) (standing_of present c) call
     pub kinds : kinds_of d.count ≡ kinds_of c.count
     pub signals : signals_of d.count ≡ signals_of c.count
 
   -- calls on c that come to events and leave d
-  pub record CarriesAll (present : B → List Bool) (c d : Counter B G) (calls : List Call) (events : List Event) : Type 0 where
+  pub record CarriesAll (present : B → List Bool) (c d : Counter B G) (calls : List Asked) (events : List Event) : Type 0 where
     pub tells : map tells events ≡ map told (pasts (signals_of c.count) (kinds_of c.count) (standing_of present c) calls)
     pub leaves : standing_of present d ≡ after_calls (signals_of c.count) (kinds_of c.count) (standing_of present c) calls
     pub kinds : kinds_of d.count ≡ kinds_of c.count
     pub signals : signals_of d.count ≡ signals_of c.count
 
 -- what a relay tells: of the calls before the hand-over, the record, and of the calls after it
-pub record Relays (gs : List SignalKind) (ks : List Kind) (cs ds : List Call) (r : Relayed) : Type 0 where
+pub record Relays (gs : List SignalKind) (ks : List Kind) (cs ds : List Asked) (r : Relayed) : Type 0 where
   pub before : map tells (vec_items r.before) ≡ map told (pasts gs ks (start ks) cs)
   pub handed : r.handed ≡ record_of (length gs) (length ks) (after_calls gs ks (start ks) cs).state
   pub later : map tells (vec_items r.later) ≡ map told (pasts gs ks (after_calls gs ks (start ks) cs) ds)

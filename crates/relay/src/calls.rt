@@ -1,9 +1,9 @@
 // What can be asked of a count.
-#[derive(Debug, Drop)]
-pub enum Call {
+#[derive(Clone, Copy, Debug)]
+pub enum Call<'a> {
     Begin { word: u64 },
     Step { statement: usize },
     Close,
     React { word: u64 },
-    TakeOver { record: Vec<u8> },
+    TakeOver { record: &'a [u8] },
 }

@@ -1,8 +1,8 @@
-ghost use Rattle.std.specs.Prelude.{◌≡◌, IfOk, vec_items};
+ghost use Rattle.std.specs.Prelude.{◌≡◌, IfOk, map, vec_items};
 ghost use Rattle.count.specs.CountView.{kinds_of, signals_of, state_of};
 ghost use Rattle.relay.specs.History.{past_of, after_call};
 ghost use Rattle.relay.specs.View.{told, tells, standing_of, Carries, CarriesAll};
-ghost use Rattle.relay.specs.declared.calls.Call.TheVariants.{Begin, Step, Close, React, TakeOver};
+ghost use Rattle.relay.specs.Asked.{asked, begin, step, close, react, take_over};
 
 use crate::calls::Call;
 use crate::events::Event;
@@ -27,7 +27,7 @@ impl<B: Board> Counter<B> {
     }
 
     fn begin(&mut self, word: u64) -> Event
-        ensures { Carries B.present self.old self.new (Begin word) result }
+        ensures { Carries B.present self.old self.new (begin word) result }
     {
         match self.count.begin(word) {
             Ok(()) => {
@@ -39,7 +39,7 @@ impl<B: Board> Counter<B> {
     }
 
     fn step(&mut self, statement: usize) -> Result<Event, AllocError>
-        ensures { IfOk result (Carries B.present self.old self.new (Step statement)) }
+        ensures { IfOk result (Carries B.present self.old self.new (step statement)) }
     {
         Ok(match self.count.step(statement) {
             Ok(()) => {
@@ -51,7 +51,7 @@ impl<B: Board> Counter<B> {
     }
 
     fn close(&mut self, heap: Global) -> Result<Event, AllocError>
-        ensures { IfOk result (Carries B.present self.old self.new Close) }
+        ensures { IfOk result (Carries B.present self.old self.new close) }
     {
         Ok(match self.count.close() {
             Ok(closing) => Event::Closed {
@@ -64,7 +64,7 @@ impl<B: Board> Counter<B> {
     }
 
     fn react(&mut self, heap: Global, word: u64) -> Result<Event, AllocError>
-        ensures { IfOk result (Carries B.present self.old self.new (React word)) }
+        ensures { IfOk result (Carries B.present self.old self.new (react word)) }
     {
         Ok(match self.count.react(word) {
             Ok(closing) => {
@@ -79,8 +79,8 @@ impl<B: Board> Counter<B> {
         })
     }
 
-    fn take_over(&mut self, record: &Vec<u8>) -> Event
-        ensures { Carries B.present self.old self.new (TakeOver «record».now) result }
+    fn take_over(&mut self, record: &[u8]) -> Event
+        ensures { Carries B.present self.old self.new (take_over «record».now) result }
     {
         match self.count.take_over(record) {
             Ok(()) => {
@@ -92,8 +92,8 @@ impl<B: Board> Counter<B> {
     }
 
     // Carries out a call.
-    pub(crate) fn call(&mut self, heap: Global, call: &Call) -> Result<Event, AllocError>
-        ensures { IfOk result (Carries B.present self.old self.new call.now) }
+    pub(crate) fn call(&mut self, heap: Global, call: &Call<'_>) -> Result<Event, AllocError>
+        ensures { IfOk result (Carries B.present self.old self.new (asked call.now)) }
     {
         match call {
             Call::Begin { word } => Ok(self.begin(*word)),
@@ -105,8 +105,8 @@ impl<B: Board> Counter<B> {
     }
 
     // Carries out the calls, one after another.
-    pub(crate) fn run(&mut self, heap: Global, calls: &[Call]) -> Result<Vec<Event>, AllocError>
-        ensures { IfOk result (λ events. CarriesAll B.present self.old self.new calls.now (vec_items events)) }
+    pub(crate) fn run(&mut self, heap: Global, calls: &[Call<'_>]) -> Result<Vec<Event>, AllocError>
+        ensures { IfOk result (λ events. CarriesAll B.present self.old self.new (map asked calls.now) (vec_items events)) }
     {
         let mut events = Vec::new(heap);
         for call in calls {
