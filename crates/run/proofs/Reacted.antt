@@ -5,8 +5,9 @@ use Rattle.routine.specs.declared.refusals.Refusal.{Refusal}
 use Rattle.signals.specs.declared.board.Board.{Ghosts}
 use Rattle.count.specs.declared.answers.Closing.{Closing}
 use Rattle.count.specs.declared.counts.Count.{Count}
+use Rattle.record.specs.Answers.{answer}
 use Rattle.record.specs.State.{State}
-use Rattle.count.specs.Calls.{answer, after}
+use Rattle.count.specs.Calls.{after}
 use Rattle.count.specs.CountView.{kinds_of, signals_of, state_of, Reacts}
 use Rattle.run.specs.Listing.{closing_line, refused_line, line_of, lines}
 

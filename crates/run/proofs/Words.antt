@@ -4,7 +4,7 @@ use Rattle.std.proofs.Math.Seq.{drop-cons}
 use Rattle.std.proofs.lemmas.List.{get_or-take, get_or-drop, drop-drop, drop_all}
 use Rattle.std.specs.Int.{w64, from_le_bytes}
 use Rattle.std.specs.Simd.{first_chunks}
-use Rattle.run.specs.Input.{word_at, words_from, words_of}
+use Rattle.run.specs.Words.{word_at, words_from, words_of}
 
 read_word : (bs : List ℕ) (p : ℕ) → from_le_bytes w64 (take 8 (drop p bs)) ≡ word_at bs p
 read_word bs p = omega (arith, byte, ap (λ (k : ℕ). get_or bs k 0) (add-zero p))

@@ -12,7 +12,8 @@ use Rattle.count.specs.declared.answers.Closing.{Closing}
 use Rattle.record.specs.State.{State}
 use Rattle.count.specs.Texts.{closing_text}
 use Rattle.count.specs.Calls.{new_state, begin_refusal, react_closing, react_state}
-use Rattle.run.specs.Input.{table_part, word_part, words_of}
+use Rattle.input.specs.Input.{table_part, rest_part}
+use Rattle.run.specs.Words.{words_of}
 
 -- a closed instant: its number, the output word, the status, the steps
 abbrev pub closing_line : Closing → List ℕ
@@ -37,4 +38,4 @@ started (Ok p) ws = lines p.0 (kinds p.1) (new_state (kinds p.1)) ws
 started (Err e) ws = refused_line e
 
 abbrev pub listing_of : List ℕ → List ℕ
-listing_of bytes = started (load_of (table_part bytes)) (words_of (word_part bytes))
+listing_of bytes = started (load_of (table_part bytes)) (words_of (rest_part bytes))

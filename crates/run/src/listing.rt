@@ -1,10 +1,10 @@
 ghost use Rattle.std.specs.Prelude.{◌≡◌, ◌++◌, IfOk, string_bytes, OnOk};
 ghost use Rattle.count.specs.CountView.{kinds_of, signals_of, state_of};
-ghost use Rattle.run.specs.Input.{words_of};
+ghost use Rattle.run.specs.Words.{words_of};
 ghost use Rattle.run.specs.Listing.{lines, listing_of};
 
-use crate::input::cut;
 use count::Count;
+use input::cut;
 use routine::{Refusal, load};
 use signals::{BitBoard, Board};
 use std::alloc::{AllocError, Global};

@@ -1,6 +1,5 @@
 #![tactic(auto)]
 
-mod input;
 mod listing;
 #[cfg(test)]
 mod tests;

@@ -1,5 +1,5 @@
 use Rattle.std.proofs.Common.{◌≡◌, ◌++◌, string_bytes}
-use Rattle.run.specs.Input.{words_of}
+use Rattle.run.specs.Words.{words_of}
 use Rattle.run.proofs.Words.{words_after}
 use Rattle.run.proofs.Reacted.{to_come}
 use Rattle.run.proofs.listing.write_lines.Given as goal

@@ -1,10 +1,11 @@
+#![tactic(auto)]
 ghost use Rattle.std.specs.Prelude.{◌≡◌};
-ghost use Rattle.run.specs.Input.{table_part, word_part};
+ghost use Rattle.input.specs.Input.{table_part, rest_part};
 
-// Cuts the input into the table and the bytes of the words.
-pub(crate) fn cut(bytes: &[u8]) -> (&[u8], &[u8])
+// Cuts the input of a program into the table and what follows it.
+pub fn cut(bytes: &[u8]) -> (&[u8], &[u8])
     ensures table { result.0.now ≡ table_part bytes.now }
-    ensures words { result.1.now ≡ word_part bytes.now }
+    ensures rest { result.1.now ≡ rest_part bytes.now }
 {
     let Some((length, rest)) = bytes.split_first_chunk::<2>() else {
         return (&[], &[]);

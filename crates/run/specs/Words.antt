@@ -1,17 +1,5 @@
--- the input: two bytes for the table's length, the table, then eight bytes for each word
-use Rattle.std.specs.Prelude.{ℕ, zero, suc, ◌+◌, ◌*◌, ◌/◌, List, [], ◌∷◌, length, take, drop, slice_index}
-
--- bytes that are missing are 0
-abbrev pub table_length : List ℕ → ℕ
-table_length bytes = slice_index bytes 0 + 256 * slice_index bytes 1
-
--- so many bytes, or what is there
-abbrev pub table_part : List ℕ → List ℕ
-table_part bytes = take (table_length bytes) (drop 2 bytes)
-
--- what follows the table
-abbrev pub word_part : List ℕ → List ℕ
-word_part bytes = drop (table_length bytes) (drop 2 bytes)
+-- the input words: eight bytes each
+use Rattle.std.specs.Prelude.{ℕ, zero, suc, ◌+◌, ◌*◌, ◌/◌, List, [], ◌∷◌, length, slice_index}
 
 -- the number of eight bytes from place p on, the lowest first
 abbrev pub word_at : List ℕ → ℕ → ℕ
