@@ -1,4 +1,4 @@
-ghost use Rattle.std.specs.Prelude.{◌≡◌, ◌<◌, ◌++◌, OnOk, string_bytes};
+ghost use Rattle.std.specs.Prelude.{◌≡◌, ◌<◌, ◌++◌, map, OnOk, string_bytes};
 ghost use Rattle.std.specs.List.{flat_map};
 ghost use Rattle.rules.specs.Texts.{digit, hex};
 ghost use Rattle.relay.specs.View.{tells};
@@ -90,7 +90,7 @@ fn write_event(out: &mut String, event: &Event) -> Result<(), AllocError>
 
 // A line for each event.
 pub(crate) fn write_events(out: &mut String, events: &[Event]) -> Result<(), AllocError>
-    ensures { OnOk result (string_bytes out.new ≡ string_bytes out.old ++ flat_map (λ e. told_line (tells e)) events.now) }
+    ensures { OnOk result (string_bytes out.new ≡ string_bytes out.old ++ flat_map told_line (map tells events.now)) }
 {
     for event in events {
         write_event(out, event)?;
@@ -114,7 +114,7 @@ fn write_instant(out: &mut String, event: &Event) -> Result<(), AllocError>
 
 // A line for each closed instant.
 pub(crate) fn write_instants(out: &mut String, events: &[Event]) -> Result<(), AllocError>
-    ensures { OnOk result (string_bytes out.new ≡ string_bytes out.old ++ flat_map (λ e. ended_line (tells e)) events.now) }
+    ensures { OnOk result (string_bytes out.new ≡ string_bytes out.old ++ flat_map ended_line (map tells events.now)) }
 {
     for event in events {
         write_instant(out, event)?;

@@ -1,0 +1,78 @@
+-- what the program prints of its input
+use Rattle.std.specs.Prelude.{ℕ, Bool, true, false, List, ◌++◌, length, map, codes, nat_eq, Ok, Err, Result}
+use Rattle.std.specs.List.{flat_map}
+use lib.Pointwise.{pointwise}
+use Rattle.routine.specs.declared.kinds.SignalKind.{SignalKind}
+use Rattle.routine.specs.declared.kinds.Kind.{Kind}
+use Rattle.routine.specs.declared.kinds.Statement.{Statement}
+use Rattle.routine.specs.declared.refusals.Refusal.{Refusal}
+use Rattle.routine.specs.Kinds.{kinds}
+use Rattle.routine.specs.Refusals.{refusal_line}
+use Rattle.routine.specs.Texts.{line_end}
+use Rattle.routine.specs.View.{load_of}
+use Rattle.input.specs.Input.{table_part, rest_part}
+use Rattle.record.specs.Record.{record_of}
+use Rattle.relay.specs.Asked.{Asked}
+use Rattle.relay.specs.History.{start, pasts, after_calls}
+use Rattle.relay.specs.View.{Told, told}
+use Rattle.handover.specs.Calls.{list_of}
+use Rattle.handover.specs.Texts.{told_line, ended_line, byte_text}
+
+-- a line for each call on the first board, the record, and a line for each call on the second
+abbrev pub relay_text : List Told → List ℕ → List Told → List ℕ
+relay_text before handed later =
+    flat_map told_line before ++ (codes "hand over " ++ (flat_map byte_text handed ++ (line_end ++ flat_map told_line later)))
+
+-- the closed instants alone
+abbrev pub instants_text : List Told → List Told → List ℕ
+instants_text before later = flat_map ended_line before ++ flat_map ended_line later
+
+-- what the calls come to on a new count of the routine, and after the hand-over
+abbrev pub before_of : List SignalKind → List Kind → List Asked → List Told
+before_of gs ks cs = map told (pasts gs ks (start ks) cs)
+
+abbrev pub handed_of : List SignalKind → List Kind → List Asked → List ℕ
+handed_of gs ks cs = record_of (length gs) (length ks) (after_calls gs ks (start ks) cs).state
+
+abbrev pub later_of : List SignalKind → List Kind → List Asked → List Asked → List Told
+later_of gs ks cs ds = map told (pasts gs ks (after_calls gs ks (start ks) cs) ds)
+
+unfoldable pub told_relay : List SignalKind → List Kind → List Asked → List Asked → List ℕ
+told_relay gs ks cs ds = relay_text (before_of gs ks cs) (handed_of gs ks cs) (later_of gs ks cs ds)
+
+unfoldable pub told_instants : List SignalKind → List Kind → List Asked → List Asked → List ℕ
+told_instants gs ks cs ds = instants_text (before_of gs ks cs) (later_of gs ks cs ds)
+
+unfoldable pub verdict : Bool → List ℕ
+verdict true = codes "the same instants" ++ line_end
+verdict false = codes "other instants" ++ line_end
+
+abbrev pub same_text : List ℕ → List ℕ → Bool
+same_text = pointwise nat_eq
+
+-- under a title
+unfoldable pub one_way : List ℕ → List ℕ
+one_way text = codes "from a bit board to a stamp board" ++ (line_end ++ text)
+
+unfoldable pub other_way : List ℕ → List ℕ
+other_way text = codes "from a stamp board to a bit board" ++ (line_end ++ text)
+
+-- two relays of a routine, by four lists of calls, and whether their instants are the same
+abbrev pub both_text : List ℕ → List ℕ → Bool → List ℕ
+both_text first second same = one_way first ++ (other_way second ++ verdict same)
+
+abbrev pub told_both : List SignalKind → List Kind → List Asked → List Asked → List Asked → List Asked → List ℕ
+told_both gs ks cs ds es fs = both_text (told_relay gs ks cs ds) (told_relay gs ks es fs) (same_text (told_instants gs ks cs ds) (told_instants gs ks es fs))
+
+unfoldable pub told_lists : List SignalKind → List Kind → List ℕ → List ℕ
+told_lists gs ks bytes =
+    told_both gs ks (list_of bytes).0 (list_of (list_of bytes).1).0 (list_of (list_of (list_of bytes).1).1).0
+    (list_of (list_of (list_of (list_of bytes).1).1).1).0
+
+-- a table that is no routine is refused
+abbrev pub started : Result (List SignalKind × List Statement) Refusal → List ℕ → List ℕ
+started (Ok p) bytes = told_lists p.0 (kinds p.1) bytes
+started (Err e) bytes = refusal_line e ++ line_end
+
+unfoldable pub story_of : List ℕ → List ℕ
+story_of bytes = started (load_of (table_part bytes)) (rest_part bytes)
