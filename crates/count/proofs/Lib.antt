@@ -3,5 +3,7 @@ pub mod Shown
 pub mod Least
 pub mod Sound
 pub mod OutputWords
-pub mod Turns
+pub mod Reach
+pub mod Along
+pub mod Settling
 pub mod Reactions

@@ -4,4 +4,5 @@ pub mod Machine
 pub mod State
 pub mod Calls
 pub mod CountView
+pub mod Passes
 pub mod Texts
