@@ -3,7 +3,9 @@ pub mod Shown
 pub mod Least
 pub mod Sound
 pub mod OutputWords
-pub mod Turns
+pub mod Reach
+pub mod Along
+pub mod Settling
 pub mod Reactions
 pub mod Presence
 pub mod TakenOver

@@ -1,5 +1,5 @@
 -- begin, settle and close together are the model's instant
-use Rattle.std.proofs.Common.{◌≡◌, ℕ, ◌*◌, ◌≤◌, Bool, true, false, List, length, IfErr, None, Ok, Result, sym, refl, ap, ◌∙◌, subst, ap₂, arith}
+use Rattle.std.proofs.Common.{◌≡◌, ℕ, ◌≤◌, Bool, true, false, List, length, IfErr, None, Ok, Result, sym, refl, ap, ◌∙◌, subst, ap₂, arith}
 use Rattle.routine.specs.declared.kinds.Kind.{Kind}
 use Rattle.routine.specs.declared.kinds.SignalKind.{SignalKind}
 use Rattle.routine.specs.declared.refusals.Refusal.{Refusal}
@@ -12,11 +12,12 @@ use Rattle.count.specs.declared.counts.Count.{Count}
 use Rattle.record.specs.State.{State}
 use Rattle.record.specs.Answers.{answer}
 use Rattle.record.specs.Phases.{is_open}
-use Rattle.count.specs.Calls.{after, begin_by, begin_refusal, begin_state, close_refusal, closing, close_state, run_of, react_closing, react_state}
+use Rattle.count.specs.Calls.{after, begin_by, begin_refusal, begin_state, close_refusal, closing, close_state, react_closing, react_state}
+use Rattle.count.specs.Passes.{Settles}
 use Rattle.count.specs.CountView.{kinds_of, signals_of, state_of, SameRoutine, Does, Closes, Reacts}
 use Rattle.record.proofs.Answered.{not_refused}
 use Rattle.count.proofs.Sound.{checked, kinds_many, begin_sound, legal}
-use Rattle.count.proofs.Turns.{final, runs_to, closes, leaves}
+use Rattle.count.proofs.Settling.{final, settles_to, closes, leaves}
 
 pub begun_resting : (p : Phase) (gs : List SignalKind) (n w : ℕ) → begin_by p gs n w ≡ None → is_open p ≡ false
 begun_resting Resting gs n w h = refl
@@ -25,7 +26,7 @@ begun_resting Over gs n w h = refl
 
 module _ {B : Type 0} {G : Ghosts B} (present : B → List Bool) (a b c d : Count B G) (word : ℕ) (r : Result Closing Refusal)
     (u : Unit {0}) (began : Does {X = Unit {0}} present a b (Ok u) (begin_refusal (signals_of a) (state_of present a) word) tt (begin_state (state_of present a) word))
-    (settled : state_of present c ≡ run_of (kinds_of b) (4 * length (kinds_of b)) (state_of present b))
+    (settles : Settles (kinds_of b) (state_of present b) (state_of present c))
     (same : SameRoutine b c)
     (closed : Closes present c d r) where
   abbrev ks : List Kind
@@ -49,9 +50,9 @@ module _ {B : Type 0} {G : Ghosts B} (present : B → List Bool) (a b c d : Coun
   -- where the count stands before the close
   stands : state_of present c ≡ final gs ks (checked a.rows) few s word lawful
   stands =
-      settled
-      ∙ ap₂ (λ (ls : List Kind) (t : State). run_of ls (4 * length ls) t) began.kinds (began.leaves ∙ ap (λ o. after o s (begin_state s word)) none)
-      ∙ runs_to gs ks (checked a.rows) few s word lawful
+      settles_to gs ks (checked a.rows) few s word lawful (state_of present c)
+      (subst (λ (t : State). Settles ks t (state_of present c)) (began.leaves ∙ ap (λ o. after o s (begin_state s word)) none)
+      (subst (λ (ls : List Kind). Settles ls (state_of present b) (state_of present c)) began.kinds settles))
 
   same_kinds : kinds_of c ≡ ks
   same_kinds = same.kinds ∙ began.kinds

@@ -1,7 +1,10 @@
 -- the signals of a word, shown from 0 on
-use Rattle.std.proofs.Common.{◌≡◌, ℕ, ◌+◌, ◌<◌, ◌≤◌, ◌≢◌, Bool, true, false, List, length, get_or, set, sym, ap, ◌∙◌, arith}
+use Rattle.std.proofs.Common.{◌≡◌, ℕ, zero, suc, ◌+◌, ◌%◌, ◌^◌, ◌<◌, ◌≤◌, ◌≢◌, Bool, true, false, ◌==◌, List, Option, length, get_or, set, sym, ap, ◌∙◌, arith}
 use Rattle.std.proofs.lemmas.List.{get_or-set_same, get_or-set_other}
 use native.Mathlib.Decide.{ℕ_discrete}
+use Rattle.std.proofs.Math.Nat.{pow-le-pow_right, div-eq_of_lt}
+use Rattle.routine.specs.Search.{or_last, lowest}
+use Rattle.count.specs.Calls.{bit}
 
 -- below i the set has what f says, and from i on nothing
 pub record Shown (f : ℕ → Bool) (i : ℕ) (p : List Bool) : Type 0 where
@@ -24,3 +27,22 @@ shown_set f i p n l e h =
       ];
       ahead = λ k m. let d : k ≢ i = λ x. omega arith in get_or-set_other p i k true false d ∙ h.ahead k (omega arith);
     }
+
+-- above a word's highest set bit there is none
+pub no_bit : (w n k : ℕ) → w < 2 ^ n → n ≤ k → bit w k ≡ false
+no_bit w n k l m =
+    let p = pow-le-pow_right {n = 2} (omega arith) {i = n} {j = k} m in
+    let b : w < 2 ^ k = omega (arith, p) in
+    ap (λ (d : ℕ). d % 2 == 1) (div-eq_of_lt {n = w} {m = 2 ^ k} b)
+
+last_not : (o : Option ℕ) (b : Bool) (n : ℕ) → b ≡ false → or_last o b n ≡ o
+last_not o b n e = grind arith
+
+-- a search needs not go on where there is nothing
+pub lowest_longer : (P : ℕ → Bool) (n m : ℕ) → n ≤ m → ((k : ℕ) → n ≤ k → P k ≡ false) → lowest P m ≡ lowest P n
+lowest_longer P n zero l h = let e : 0 ≡ n = omega arith in ap (lowest P) e
+lowest_longer P n (suc m) l h =
+    elim (ℕ_discrete n (suc m)) [
+      | yes e ↦ ap (lowest P) (sym e)
+      | no d ↦ last_not (lowest P m) (P m) m (h m (omega arith)) ∙ lowest_longer P n m (omega arith) h
+    ]

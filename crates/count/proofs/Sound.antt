@@ -87,7 +87,7 @@ step_keeps t u e k h r m = moved true t u _ m.kinds m.marks ((stays t).steps (ma
 pub end_keeps : (t u : Rows) (e : Signals) → Keeps true (kinds_in t) (marks_in t) → Marked t u (ended (tree_in t 0) (marks_in t) e) → Keeps false (kinds_in u) (marks_in u)
 end_keeps t u e h m = moved false t u _ m.kinds m.marks ((stays t).ends (marks_in t, e) (legal t true h))
 
-rule_same : (t : Tree) (ms : List Mark) (e : Signals) → rule t ms e ≡ applies t ms (heard t e)
+pub rule_same : (t : Tree) (ms : List Mark) (e : Signals) → rule t ms e ≡ applies t ms (heard t e)
 rule_same (leaf n k) ms e = leaf_same e (at ms n) k
 rule_same (one n k p) ms e = refl
 rule_same (two n k p q) ms e = two_same e (at ms n) k (over p ms)

@@ -1,5 +1,5 @@
 -- what each call answers, and the state that it leaves
-use Rattle.std.specs.Prelude.{◌≡◌, ℕ, zero, suc, ◌+◌, ◌/◌, ◌%◌, ◌^◌, Bool, true, false, cond, not, ◌&&◌, List, length, Some, None, Option, ◌==◌, nat_lt, slice_index_or}
+use Rattle.std.specs.Prelude.{◌≡◌, ℕ, ◌+◌, ◌/◌, ◌%◌, ◌^◌, Bool, true, false, cond, not, ◌&&◌, List, length, Some, None, Option, ◌==◌, nat_lt, slice_index_or}
 use Rattle.signals.specs.Sets.{empty, word_set}
 use Rattle.routine.specs.declared.kinds.Kind.{Kind}
 use Rattle.routine.specs.declared.kinds.SignalKind.{SignalKind}
@@ -132,12 +132,3 @@ rested closed o = record { phase = phase_of o.status; closed = closed + 1; steps
 
 abbrev pub react_state : List SignalKind → List Kind → State → ℕ → State
 react_state gs ks s word = rested s.closed (instant gs ks s.marks word)
-
--- steps of the lowest ready statement, again and again, so many at most
-abbrev pub turn : List Kind → (State → State) → State → Option ℕ → State
-turn ks go s None = s
-turn ks go s (Some k) = go (step_state ks s k)
-
-unfoldable pub run_of : List Kind → ℕ → State → State
-run_of ks zero s = s
-run_of ks (suc most) s = turn ks (run_of ks most) s (lowest (ready (tree_at ks 0) s.marks s.present) (length ks))

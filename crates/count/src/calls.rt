@@ -1,11 +1,12 @@
-ghost use Rattle.std.specs.Prelude.{◌≡◌, ◌*◌, ◌<◌, true, false, length, None, OnOk, slice_index_or};
+ghost use Rattle.std.specs.Prelude.{◌≡◌, ◌<◌, true, false, None, OnOk, slice_index_or};
 ghost use Rattle.routine.specs.View.{kinds_of as kinds_read, signals_of as signals_read};
 ghost use Rattle.rules.specs.Rules.{over, ready};
 ghost use Rattle.rules.specs.Model.{outputs_of, status_of};
 ghost use Rattle.record.specs.Answers.{answer};
 ghost use Rattle.record.specs.Phases.{is_open};
 ghost use Rattle.count.specs.View.{marks_in, count_in, tree_in};
-ghost use Rattle.count.specs.Calls.{run_of, new_state, stray, first_stray, begin_refusal, step_refusal, step_state, close_refusal, shown_out};
+ghost use Rattle.count.specs.Calls.{new_state, stray, first_stray, begin_refusal, step_refusal, step_state, close_refusal, shown_out};
+ghost use Rattle.count.specs.Passes.{Settles};
 ghost use Rattle.count.specs.CountView.{kinds_of, signals_of, state_of, SameRoutine, Begins, Steps, Closes, Reacts};
 
 use crate::answers::Closing;
@@ -49,7 +50,7 @@ impl<B: Board> Count<B> {
     fn stray(&self, word: u64) -> Option<u8>
         ensures { result ≡ first_stray (signals_of self.now) word }
     {
-        (0..64).find(|s| self.is_stray(word, *s))
+        (0..words::width(word)).find(|s| self.is_stray(word, *s))
     }
 
     fn may_begin(&self, word: u64) -> Result<(), Refusal>
@@ -98,7 +99,7 @@ impl<B: Board> Count<B> {
     }
 
     // The step of statement k, which is ready.
-    fn act(&mut self, k: usize)
+    pub(crate) fn act(&mut self, k: usize)
         requires live { is_open self.old.phase ≡ true }
         requires ready { ready (tree_in self.old.rows 0) (marks_in self.old.rows) (B.present self.old.board) k ≡ true }
         ensures leaves { state_of B.present self.new ≡ step_state (kinds_of self.old) (state_of B.present self.old) k }
@@ -185,23 +186,22 @@ impl<B: Board> Count<B> {
         Ok(closing)
     }
 
-    // Steps the lowest ready statement until none is ready.
+    // Passes over the tree that step what is ready, until nothing is.
     fn settle(&mut self)
         requires { is_open self.old.phase ≡ true }
-        ensures leaves { state_of B.present self.new ≡ run_of (kinds_of self.old) (4 * length (kinds_of self.old)) (state_of B.present self.old) }
+        ensures settles { Settles (kinds_of self.old) (state_of B.present self.old) (state_of B.present self.new) }
         ensures routine { SameRoutine self.old self.new }
     {
-        // The loop has the bound that every instant has.
+        // Each pass but the last makes a step, so an instant's bound bounds the loop.
         let most = 4 * self.rows.routine.count();
         for _ in 0..most {
-            let Some(lowest) = self.lowest_ready() else {
+            if !self.pass(0) {
                 return;
-            };
-            self.act(lowest);
+            }
         }
     }
 
-    // A whole instant: begins with the word, steps the lowest ready statement until none is ready, and closes.
+    // A whole instant: begins with the word, steps what is ready until nothing is, and closes.
     pub fn react(&mut self, word: u64) -> Result<Closing, Refusal>
         ensures { Reacts B.present self.old self.new word result }
     {

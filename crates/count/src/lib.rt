@@ -4,6 +4,7 @@ pub mod answers;
 pub mod calls;
 pub mod counts;
 pub mod machine;
+mod passes;
 pub mod questions;
 pub mod ready;
 pub mod records;

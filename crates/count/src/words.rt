@@ -1,4 +1,4 @@
-ghost use Rattle.std.specs.Prelude.{◌≡◌, ◌<◌, ◌≤◌};
+ghost use Rattle.std.specs.Prelude.{◌≡◌, ◌^◌, ◌<◌, ◌≤◌};
 ghost use Rattle.signals.specs.Sets.{word_set};
 ghost use Rattle.rules.specs.Rules.{apply};
 ghost use Rattle.count.specs.Calls.{bit, IsWordOf};
@@ -26,13 +26,21 @@ pub(crate) fn word_of<F: Fn(usize) -> bool>(n: usize, has: F) -> u64
         .fold(0, |word, s| word << 1 | u64::from(has(s)))
 }
 
+// How many bits there are up to the highest that is set.
+pub(crate) fn width(word: u64) -> u8
+    ensures short { result ≤ 64 }
+    ensures within { word < 2 ^ result }
+{
+    (64 - word.leading_zeros()) as u8
+}
+
 // Leaves exactly the signals of the word present.
 pub(crate) fn show<B: Board>(board: &mut B, word: u64)
     ensures { B.present board.new ≡ word_set word }
 {
     board.wipe();
     // No `filter` before the loop: in generic code the prover refuses the iterator that it makes.
-    for s in 0..64 {
+    for s in 0..width(word) {
         if has_bit(word, s) {
             board.raise(s);
         }

@@ -3,7 +3,8 @@ use Rattle.signals.specs.Sizes.{length-word_set}
 use Rattle.signals.proofs.Sets.{get_or-empty}
 use Rattle.signals.proofs.WordSets.{get_or-word_set}
 use Rattle.count.specs.Calls.{bit}
-use Rattle.count.proofs.Shown.{Shown, shown_keep, shown_set}
+use native.Mathlib.Decide.{dec_lt}
+use Rattle.count.proofs.Shown.{Shown, shown_keep, shown_set, no_bit}
 use Rattle.count.proofs.words.show.Goals as goal
 use Rattle.count.proofs.words.show.Goals.{then-has_bit, else-has_bit}
 
@@ -23,5 +24,12 @@ loop-s-preserved g c =
 
 pub returns : goal.returns
 returns g c =
+    let w = c.args.word in
     let e = g.met.B.Board.size c.loop-s.board in
-    ext_get_or false _ _ (e ∙ sym (length-word_set c.args.word)) (λ k l. let m : k < 64 = omega arith in c.loop-s.invariant.done k (omega arith) ∙ sym (get_or-word_set c.args.word k m))
+    let i = c.loop-s.invariant in
+    let n = c.width-s-end.ensures in
+    ext_get_or false _ _ (e ∙ sym (length-word_set w)) (λ k l. let m : k < 64 = omega arith in
+    elim (dec_lt k c.loop-s.s) [
+      | yes u ↦ i.done k u
+      | no d ↦ i.ahead k (omega arith) ∙ sym (no_bit w c.width-s-end.result k n.within (omega arith))
+    ] ∙ sym (get_or-word_set w k m))
