@@ -1,0 +1,104 @@
+#!/usr/bin/env python3
+"""Plants wrong lines in the code, one at a time, and reports which of them the check lets through.
+
+    python3 tools/plant.py                 every list of tools/plants
+    python3 tools/plant.py count relay     the lists of those crates
+    python3 tools/plant.py count:step      the plants of one function
+
+A list is tools/plants/CRATE.txt. A plant is a block of lines, and an empty line ends it:
+
+    function: step             the function, or the method, in which it stands
+    file: src/calls.rt
+    old: a line's text, which stands once in that file
+    new: what stands there instead
+    same: why nothing changes  only where the program means the same as before, so that the check may let it through
+
+Each crate is planted in a copy of the repository under the folder for temporary files, so nothing here is altered. A plant is
+refused if `rt check` of the crate does not prove it; the report says by which goal. The exit status is 1 if one that is not
+marked as the same is let through, or one cannot be planted.
+"""
+import pathlib
+import re
+import shutil
+import subprocess
+import sys
+import tempfile
+
+TOP = pathlib.Path(__file__).resolve().parent.parent
+LISTS = TOP / "tools" / "plants"
+
+
+def plants(crate):
+    blocks, block = [], {}
+    for line in (LISTS / f"{crate}.txt").read_text().splitlines() + [""]:
+        if line.startswith("#"):
+            continue
+        if line.strip():
+            key, _, text = line.partition(": ")
+            block[key] = text
+        elif block:
+            blocks.append(block)
+            block = {}
+    return blocks
+
+
+def reason(output):
+    """The first thing that the check does not accept."""
+    for line in output.splitlines():
+        if re.search(r"it is not proved|found no proof|no proof:|: error", line):
+            return re.sub(r"; the facts known there.*", "", line.replace("note: ", "", 1))[:200]
+    return "not proved"
+
+
+def check(folder):
+    run = subprocess.run(["rt", "check"], cwd=folder, capture_output=True, text=True, errors="replace")
+    output = run.stdout + run.stderr
+    return run.returncode == 0 and "logic=proved" in output, output
+
+
+def try_plant(crate, plant, copy):
+    path = copy / "crates" / crate / plant["file"]
+    before = path.read_text()
+    if before.count(plant["old"]) != 1:
+        return "cannot be planted: its old text does not stand once in the file", False
+    path.write_text(before.replace(plant["old"], plant["new"]))
+    try:
+        proved, output = check(copy / "crates" / crate)
+    finally:
+        path.write_text(before)
+    unbuilt = re.search(r"\.rt:\d+:\d+: error\[.*", output)
+    if unbuilt:
+        return f"cannot be planted: {unbuilt.group()[:160]}", False
+    if not proved:
+        return f"refused: {reason(output)}", "same" not in plant
+    if "same" in plant:
+        return f"the same: {plant['same']}", True
+    return "LET THROUGH", False
+
+
+def try_crate(crate, function):
+    good = True
+    with tempfile.TemporaryDirectory() as folder:
+        copy = pathlib.Path(folder)
+        shutil.copy(TOP / "crates.txt", copy)
+        shutil.copytree(TOP / "crates", copy / "crates")
+        proved, output = check(copy / "crates" / crate)
+        if not proved:
+            print(f"{crate}: is not proved as it stands: {reason(output)}")
+            return False
+        for plant in plants(crate):
+            if function and plant["function"] != function:
+                continue
+            text, fine = try_plant(crate, plant, copy)
+            good = good and fine
+            print(f"{crate}::{plant['function']}: {plant['old'].strip()} => {plant['new'].strip()}\n    {text}", flush=True)
+    return good
+
+
+def main():
+    asked = sys.argv[1:] or sorted(path.stem for path in LISTS.glob("*.txt"))
+    results = [try_crate(*(name.split(":") + [""])[:2]) for name in asked]
+    sys.exit(0 if all(results) else 1)
+
+
+main()
