@@ -12,6 +12,7 @@ A list is tools/plants/CRATE.txt. A plant is a block of lines, and an empty line
     old: a line's text, which stands once in that file
     new: what stands there instead
     same: why nothing changes  only where the program means the same as before, so that the check may let it through
+    unbuilt: the error's name  only where it must not even build, as a use of what was handed over
 
 Each crate is planted in a copy of the repository under the folder for temporary files, so nothing here is altered. A plant is
 refused if `rt check` of the crate does not prove it; the report says by which goal. The exit status is 1 if one that is not
@@ -67,6 +68,8 @@ def try_plant(crate, plant, copy):
     finally:
         path.write_text(before)
     unbuilt = re.search(r"\.rt:\d+:\d+: error\[.*", output)
+    if "unbuilt" in plant:
+        return f"does not build: {unbuilt and unbuilt.group()[:160]}", bool(unbuilt) and f"[{plant['unbuilt']}]" in unbuilt.group()
     if unbuilt:
         return f"cannot be planted: {unbuilt.group()[:160]}", False
     if not proved:

@@ -1,19 +1,12 @@
 -- a word made from its highest bit down
-use Rattle.std.proofs.Common.{◌≡◌, ℕ, zero, suc, ◌+◌, ◌-◌, ◌*◌, ◌%◌, ◌^◌, ◌<◌, ◌≤◌, Bool, true, false, cond, List, [], ◌∷◌, length, get_or, fold, bit_or, sym, ap, ◌∙◌, ap₂, pow-suc, arith, pow_mono}
+use Rattle.std.proofs.Common.{◌≡◌, ℕ, suc, ◌+◌, ◌-◌, ◌*◌, ◌%◌, ◌^◌, ◌<◌, ◌≤◌, Bool, true, false, cond, List, [], ◌∷◌, length, get_or, fold, bit_or, sym, ap, ◌∙◌, ap₂, arith, pow_mono}
 use Rattle.std.specs.Int.Bits.{or_zero_r}
 use Rattle.std.proofs.lemmas.Nat.{or_disjoint, and_mask}
 use Rattle.rules.specs.Model.{word_from}
+use Rattle.record.proofs.Words.{word_below}
 
 word_more : (P : ℕ → Bool) (n k : ℕ) → k < n → cond (P k) 1 0 + 2 * word_from P (n - (k + 1)) (k + 1) ≡ word_from P (n - k) k
 word_more P n k l = let e : n - k ≡ suc (n - (k + 1)) = omega arith in sym (ap (λ (f : ℕ). word_from P f k) e)
-
-digit : (b : Bool) → cond b 1 0 ≤ 1
-digit true = omega arith
-digit false = omega arith
-
-word_below : (P : ℕ → Bool) (f i : ℕ) → word_from P f i < 2 ^ f
-word_below P zero i = omega arith
-word_below P (suc f) i = omega (arith, word_below P f (i + 1), digit (P i), pow-suc 2 f)
 
 word_fits : (P : ℕ → Bool) (f i : ℕ) → f ≤ 63 → word_from P f i < 2 ^ 63
 word_fits P f i l = omega (arith, word_below P f i, pow_mono l)

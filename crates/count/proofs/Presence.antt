@@ -1,5 +1,5 @@
 -- which signals are present after a call
-use Rattle.std.proofs.Common.{◌≡◌, ℕ, ◌<◌, ◌≢◌, Bool, true, false, not, ◌&&◌, List, length, None, refl, ap, ◌∙◌, get_or, slice_set, arith}
+use Rattle.std.proofs.Common.{◌≡◌, ℕ, ◌<◌, ◌≢◌, Bool, true, false, not, ◌&&◌, List, length, None, ap, ◌∙◌, get_or, slice_set, arith}
 use Rattle.std.proofs.lemmas.Bool.{ltb-true, and_parts}
 use Rattle.std.proofs.lemmas.List.{get_or-set_other, get_or_past}
 use native.Mathlib.Decide.{dec_lt}
@@ -7,35 +7,21 @@ use Rattle.routine.specs.declared.kinds.Kind.{Kind}
 use Rattle.routine.specs.declared.kinds.Kind.TheVariants.{Nothing, Stop, Emit, Wait, Sequence, Parallel, Loop, When, Kill, Local}
 use Rattle.routine.specs.declared.kinds.SignalKind.{SignalKind}
 use Rattle.routine.specs.declared.kinds.SignalKind.TheVariants.{Local as Own}
-use Rattle.routine.specs.Kinds.{shape, kind_at}
+use Rattle.routine.specs.Kinds.{kind_at}
 use Rattle.routine.specs.Layout.{fits, Formed}
 use Rattle.routine.specs.Meaning.{is_input}
-use Rattle.routine.specs.Tree.{Tree, node}
 use Rattle.routine.proofs.Searches.{none_below}
 use Rattle.signals.specs.Sets.{empty, word_set}
 use Rattle.signals.specs.Sizes.{length-word_set}
 use Rattle.signals.proofs.Sets.{get_or-empty, get_or-above}
 use Rattle.signals.proofs.WordSets.{get_or-word_set}
-use Rattle.rules.specs.Rules.{Signals, effect_of, apply}
+use Rattle.rules.specs.Rules.{Signals, apply}
 use Rattle.record.specs.Sound.{Within}
 use Rattle.count.specs.Calls.{bit, stray, first_stray}
 use Rattle.count.specs.Machine.{kind_effect}
 
 pub within_empty : (g : ℕ) (e : Signals) → e ≡ empty → Within g e
 within_empty g e h = λ s l. ap (λ p. get_or p s false) h ∙ get_or-empty s
-
--- the step's effect, by the statement's kind
-pub effect_by_kind : (i : ℕ) (k : Kind) (sub : ℕ → Tree) → effect_of (node i (shape k) sub) ≡ kind_effect k
-effect_by_kind i Nothing sub = refl
-effect_by_kind i Stop sub = refl
-effect_by_kind i (Emit s) sub = refl
-effect_by_kind i (Wait s) sub = refl
-effect_by_kind i (Sequence a b) sub = refl
-effect_by_kind i (Parallel a b) sub = refl
-effect_by_kind i (Loop a) sub = refl
-effect_by_kind i (When s a b) sub = refl
-effect_by_kind i (Kill s a) sub = refl
-effect_by_kind i (Local s a) sub = refl
 
 within_set : (g s : ℕ) (b : Bool) (e : Signals) → s < g → Within g e → Within g (slice_set e s b)
 within_set g s b e l h = λ k m. let d : k ≢ s = λ x. omega arith in get_or-set_other e s k b false d ∙ h k m

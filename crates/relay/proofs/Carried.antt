@@ -1,5 +1,5 @@
 -- calls carried out one after another
-use Rattle.std.proofs.Common.{ℕ, ◌+◌, ◌<◌, ◌≡◌, Bool, List, [], ◌∷◌, ◌++◌, map, append_assoc, length, drop, get_or, subst, refl, sym, ap, ap₂, ◌∙◌}
+use Rattle.std.proofs.Common.{ℕ, ◌+◌, ◌<◌, ◌≡◌, Bool, List, [], ◌∷◌, ◌++◌, map, append_assoc, length, drop, get_or, subst, sym, ap, ap₂, ◌∙◌}
 use Rattle.std.proofs.lemmas.List.{append-nil, map_push, drop_more}
 use Rattle.routine.specs.declared.kinds.Kind.{Kind}
 use Rattle.routine.specs.declared.kinds.SignalKind.{SignalKind}
@@ -21,9 +21,6 @@ module _ {B : Type 0} {G : Ghosts B} (present : B → List Bool) where
         ≡ after_calls (signals_of c.count) (kinds_of c.count) (standing_of present c) calls
     pub kinds : kinds_of d.count ≡ kinds_of c.count
     pub signals : signals_of d.count ≡ signals_of c.count
-
-  pub carried_none : (c : Counter B G) (calls : List Asked) → Carried c c calls calls []
-  carried_none c calls = record { tells = refl; leaves = refl; kinds = refl; signals = refl }
 
   pub carried_more : (c d e : Counter B G) (calls rest : List Asked) (call : Asked) (events : List Event) (event : Event) → Carried c d calls (call ∷ rest) events
       → Carries present d e call event → Carried c e calls rest (events ++ (event ∷ []))

@@ -58,7 +58,7 @@ module _ (gs : List SignalKind) (ks : List Kind) (C : Checked gs ks) (few : leng
   From ms ws a ps = Follows gs ks C few ms ws a ps
 
   no_calls : (a : Standing) {ms : List Mark} {ws : List ℕ} → Stands gs ks C few a ms ws → From ms ws a []
-  no_calls a S = record { instants = refl; numbers = λ k e h. absurd (none-some e h); closed_steps = λ k e h. absurd (none-some e h); open_steps = so_far S }
+  no_calls a S = record { instants = refl; numbers = λ k e h. absurd (none-some e h); counted = λ k e h. absurd (none-some e h); closed_steps = λ k e h. absurd (none-some e h); open_steps = so_far S }
     where
       so_far : {ms : List Mark} {ws : List ℕ} → Stands gs ks C few a ms ws → length a.stepped ≤ 4 * length ks
       so_far (between o L e) = let l = ap length e in omega arith
@@ -76,7 +76,7 @@ module _ (gs : List SignalKind) (ks : List Kind) (C : Checked gs ks) (few : leng
   as_model : (cs : List Asked) → taken (pasts gs ks (start ks) cs) ≡ false → AsModel gs ks (pasts gs ks (start ks) cs)
   as_model cs t =
       let F = follows cs (start ks) (between refl (marks_stay_legal gs ks C).starts refl) t in
-      record { instants = F.instants; numbers = λ k e h. F.numbers k e h ∙ omega arith; closed_steps = F.closed_steps; open_steps = F.open_steps }
+      record { instants = F.instants; numbers = λ k e h. F.numbers k e h ∙ omega arith; counted = F.counted; closed_steps = F.closed_steps; open_steps = F.open_steps }
 
   pub always_as_model : AlwaysAsModel gs ks
   always_as_model cs ds t =
@@ -92,4 +92,6 @@ module _ (gs : List SignalKind) (ks : List Kind) (C : Checked gs ks) (few : leng
       let N = happened qs K in
       let o : a.outcome ≡ b.outcome =
       same_Some _ _ (outcome_at gs ks ps k a M g ∙ ap (λ (ws : List ℕ). slice_get (model gs ks ws) k) same ∙ sym (outcome_at gs ks qs k b N h)) in
-      ap₂ (λ (n : ℕ) (x : Outcome). record { instant = n; outcome = x }) (M.numbers k a g ∙ sym (N.numbers k b h)) o
+      let t : a.accepted_steps ≡ b.accepted_steps = sym (M.counted k a g) ∙ ap (λ (x : Outcome). x.steps) o ∙ N.counted k b h in
+      ap₂ (λ (n t : ℕ). record { instant = n; accepted_steps = t; outcome = a.outcome }) (M.numbers k a g ∙ sym (N.numbers k b h)) t
+      ∙ ap (λ (x : Outcome). record { instant = b.instant; accepted_steps = b.accepted_steps; outcome = x }) o

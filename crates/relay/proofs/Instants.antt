@@ -1,5 +1,5 @@
 -- one call: where it leaves a count, and what it adds to what the model says
-use Rattle.std.proofs.Common.{◌≡◌, ◌≢◌, ℕ, zero, suc, ◌+◌, ◌*◌, ◌≤◌, Bool, true, false, cond, List, [], ◌∷◌, ◌++◌, length, take, map, Some, None, Option, sym, refl, ap, ◌∙◌, ap₂, arith}
+use Rattle.std.proofs.Common.{◌≡◌, ◌≢◌, ℕ, zero, suc, ◌+◌, ◌*◌, ◌≤◌, Bool, true, false, cond, List, [], ◌∷◌, ◌++◌, length, take, map, Some, None, Option, sym, refl, ap, ◌∙◌, subst, ap₂, arith}
 use Rattle.std.specs.Prelude.{slice_get}
 use Rattle.std.proofs.lemmas.Bool.{lt-ltb}
 use Rattle.std.proofs.lemmas.List.{length_push}
@@ -67,24 +67,32 @@ module _ (gs : List SignalKind) (ks : List Kind) (C : Checked gs ks) (few : leng
   pub record AsModelFrom (ms : List Mark) (n : ℕ) (ws : List ℕ) (es : List Ended) (v : List ℕ) : Type 0 where
     pub instants : map (λ (e : Ended). e.outcome) es ≡ take (length es) (instants_from gs ks ms ws)
     pub numbers : (k : ℕ) (e : Ended) → slice_get es k ≡ Some e → e.instant ≡ n + (k + 1)
-    pub closed_steps : (k : ℕ) (e : Ended) → slice_get es k ≡ Some e → e.outcome.steps ≤ 4 * length ks
+    pub counted : (k : ℕ) (e : Ended) → slice_get es k ≡ Some e → e.outcome.steps ≡ e.accepted_steps
+    pub closed_steps : (k : ℕ) (e : Ended) → slice_get es k ≡ Some e → e.accepted_steps ≤ 4 * length ks
     pub open_steps : length v ≤ 4 * length ks
 
   -- one instant more in front
-  module _ (ms : List Mark) (n word : ℕ) (o : Outcome) (L : Legal true ks ms) (same : o ≡ instant gs ks ms word) (ws : List ℕ) (es : List Ended) (v : List ℕ)
+  module _ (ms : List Mark) (n word t : ℕ) (o : Outcome) (L : Legal true ks ms) (same : o ≡ instant gs ks ms word) (all : o.steps ≡ t) (ws : List ℕ) (es : List Ended) (v : List ℕ)
       (F : AsModelFrom o.marks (n + 1) ws es v) where
     abbrev e : Ended
-    e = record { instant = n + 1; outcome = o }
+    e = record { instant = n + 1; accepted_steps = t; outcome = o }
 
     number : (k : ℕ) (x : Ended) → slice_get (e ∷ es) k ≡ Some x → x.instant ≡ n + (k + 1)
     number zero x h = ap (λ (y : Ended). y.instant) (sym (same_Some _ x h)) ∙ omega arith
     number (suc k) x h = let f = F.numbers k x h in omega arith
 
-    bounded : (k : ℕ) (x : Ended) → slice_get (e ∷ es) k ≡ Some x → x.outcome.steps ≤ 4 * length ks
-    bounded zero x h =
-        let f : x.outcome.steps ≡ (instant gs ks ms word).steps = ap (λ (y : Ended). y.outcome.steps) (sym (same_Some _ x h)) ∙ ap (λ (y : Outcome). y.steps) same in
+    counts : (k : ℕ) (x : Ended) → slice_get (e ∷ es) k ≡ Some x → x.outcome.steps ≡ x.accepted_steps
+    counts zero x h = subst (λ (y : Ended). y.outcome.steps ≡ y.accepted_steps) (same_Some _ x h) all
+    counts (suc k) x h = F.counted k x h
+
+    few_taken : t ≤ 4 * length ks
+    few_taken =
+        let f : o.steps ≡ (instant gs ks ms word).steps = ap (λ (y : Outcome). y.steps) same in
         let l = few_steps ms word L (model_runs ms word L) in
-        omega arith
+        omega (arith, all)
+
+    bounded : (k : ℕ) (x : Ended) → slice_get (e ∷ es) k ≡ Some x → x.accepted_steps ≤ 4 * length ks
+    bounded zero x h = subst (λ (y : Ended). y.accepted_steps ≤ 4 * length ks) (same_Some _ x h) few_taken
     bounded (suc k) x h = F.closed_steps k x h
 
     one_ended : AsModelFrom ms n (word ∷ ws) (e ∷ es) v
@@ -92,6 +100,7 @@ module _ (gs : List SignalKind) (ks : List Kind) (C : Checked gs ks) (few : leng
         record {
           instants = ap₂ ◌∷◌ same (F.instants ∙ ap (λ (x : Outcome). take (length es) (instants_from gs ks x.marks ws)) same);
           numbers = number;
+          counted = counts;
           closed_steps = bounded;
           open_steps = F.open_steps;
         }
@@ -137,7 +146,7 @@ module _ (gs : List SignalKind) (ks : List Kind) (C : Checked gs ks) (few : leng
         marks = (close_state ks a.state).marks;
         words = [];
         stands = between (closed_not_open (over (tree_at ks 0) a.state.marks)) ((marks_stay_legal gs ks C).ends x (run_legal r L)) refl;
-        before = λ ps F. one_ended ms a.state.closed word _ L same (accepted ps) (ended (length ks) ps) (left_open [] ps) F;
+        before = λ ps F. one_ended ms a.state.closed word (length a.stepped) _ L same e (accepted ps) (ended (length ks) ps) (left_open [] ps) F;
       }
 
   by_react : (a : Standing) (word : ℕ) {ms : List Mark} {ws : List ℕ} → Stands a ms ws → begin_refusal gs a.state word ≡ None
@@ -150,7 +159,7 @@ module _ (gs : List SignalKind) (ks : List Kind) (C : Checked gs ks) (few : leng
         marks = (react_state gs ks a.state word).marks;
         words = [];
         stands = between (after_not_open (over (tree_at ks 0) x.0)) ((marks_stay_legal gs ks C).ends x (run_legal (model_runs a.state.marks word L') L')) refl;
-        before = λ ps F. one_ended a.state.marks a.state.closed word (instant gs ks a.state.marks word) L' refl (accepted ps) (ended (length ks) ps) (left_open [] ps) F;
+        before = λ ps F. one_ended a.state.marks a.state.closed word (length (path ks (enough ks) (a.state.marks, word_set word))) (instant gs ks a.state.marks word) L' refl refl (accepted ps) (ended (length ks) ps) (left_open [] ps) F;
       }
   by_react a word (inside o L r e) h = absurd (never _ o (begun_resting a.state.phase gs a.state.closed word h))
 

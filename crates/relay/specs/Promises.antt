@@ -30,16 +30,18 @@ accepted (reacts w c ms v ∷ ps) = w ∷ accepted ps
 accepted (takes_over ∷ ps) = accepted ps
 accepted (refuses r ∷ ps) = accepted ps
 
--- a closed instant: its number, and what it came to: outputs, status, how often each of the n statements was stepped, steps,
--- remaining marks
+-- a closed instant: its number, how many steps were accepted in it, react's own included, and what it came to: outputs, status,
+-- how often each of the n statements was stepped, the steps that its closing answers, remaining marks
 pub record Ended : Type 0 where
   pub instant : ℕ
+  pub accepted_steps : ℕ
   pub outcome : Outcome
 
 abbrev pub ended_as : ℕ → Closing → List Mark → List ℕ → Ended
 ended_as n c ms v =
     record {
       instant = c.instant;
+      accepted_steps = length v;
       outcome = record { outputs = c.outputs; status = c.status; times = each_below (λ i. count ℕ_discrete i v) n; steps = c.steps; marks = ms };
     }
 
@@ -71,7 +73,8 @@ module _ (gs : List SignalKind) (ks : List Kind) where
   pub record AsModel (ps : List Past) : Type 0 where
     pub instants : map (λ (e : Ended). e.outcome) (ended (length ks) ps) ≡ take (length (ended (length ks) ps)) (model gs ks (accepted ps))
     pub numbers : (k : ℕ) (e : Ended) → slice_get (ended (length ks) ps) k ≡ Some e → e.instant ≡ k + 1
-    pub closed_steps : (k : ℕ) (e : Ended) → slice_get (ended (length ks) ps) k ≡ Some e → e.outcome.steps ≤ 4 * length ks
+    pub counted : (k : ℕ) (e : Ended) → slice_get (ended (length ks) ps) k ≡ Some e → e.outcome.steps ≡ e.accepted_steps
+    pub closed_steps : (k : ℕ) (e : Ended) → slice_get (ended (length ks) ps) k ≡ Some e → e.accepted_steps ≤ 4 * length ks
     pub open_steps : length (left_open [] ps) ≤ 4 * length ks
 
   -- every history in which each take over is refused

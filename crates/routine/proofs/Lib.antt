@@ -8,4 +8,3 @@ pub mod Searches
 pub mod Checking
 pub mod Passed
 pub mod Whole
-pub mod Written

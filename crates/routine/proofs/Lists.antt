@@ -1,5 +1,5 @@
 -- a table's rows, as a list of statements
-use Rattle.std.proofs.Common.{◌≡◌, ℕ, ◌+◌, ◌<◌, ◌≤◌, cond, sum_by, take, take_all, zero, suc, refl, List, [], ◌∷◌, length, get_or, sym, ap, ◌∙◌, arith}
+use Rattle.std.proofs.Common.{◌≡◌, ℕ, ◌+◌, ◌≤◌, cond, sum_by, take, take_all, zero, suc, refl, List, [], ◌∷◌, length, get_or, sym, ap, ◌∙◌, arith}
 use Rattle.std.proofs.lemmas.List.{get_or-map, length-map}
 use Rattle.std.specs.List.{count_by}
 use Rattle.std.proofs.lemmas.List.Sums.{sum_by_more, sum_by-cons}
@@ -9,9 +9,6 @@ use Rattle.routine.specs.declared.kinds.SignalKind.{SignalKind}
 use Rattle.routine.specs.declared.kinds.Statement.{Statement}
 use Rattle.routine.specs.Kinds.{kinds, kind_at, shape, fresh}
 use Rattle.routine.specs.Meaning.{names, named, same, how_many}
-
-pub kind_read : (ss : List Statement) (i : ℕ) (x : Statement) → i < length ss → x ≡ get_or ss i x → x.kind ≡ kind_at (kinds ss) i
-kind_read ss i x l e = ap (λ (y : Statement). y.kind) e ∙ sym (get_or-map (λ (y : Statement). y.kind) ss i x Nothing l)
 
 pub kinds_length : (ss : List Statement) (n : ℕ) → n ≡ length ss → length (kinds ss) ≡ n
 kinds_length ss n e = length-map ss (λ (y : Statement). y.kind) ∙ sym e

@@ -1,9 +1,11 @@
 #![tactic(auto)]
 
-// Examples of tables: those that are routines, and each refusal with the ways into it; and of counts at work, by react
-// and call by call, on both boards.
+// Examples of tables: those that are routines, and each refusal with the ways into it; of counts at work, by react and
+// call by call, on both boards; and of records, from board to board, and each refusal of one with the ways into it.
 #[cfg(test)]
 mod calls;
+#[cfg(test)]
+mod records;
 #[cfg(test)]
 mod tables;
 #[cfg(test)]

@@ -17,9 +17,6 @@ In t i = Has (blank t) i
 pub kept_set : (P : ℕ → Type 0) (ms : List Mark) (n : ℕ) (m : Mark) → P n → Kept P ms (set ms n m)
 kept_set P ms n m h = record { length = length-set ms n m; other = λ i d. get_or-set_other ms n i m idle (λ e. d (subst P (sym e) h)) }
 
-pub kept_then : {P Q R : ℕ → Type 0} {a b c : List Mark} → ((i : ℕ) → P i → R i) → ((i : ℕ) → Q i → R i) → Kept P a b → Kept Q b c → Kept R a c
-kept_then f g h k = record { length = k.length ∙ h.length; other = λ i d. k.other i (λ q. d (g i q)) ∙ h.other i (λ p. d (f i p)) }
-
 pub begun_kept : (t : Tree) (ms : List Mark) → Kept (In t) ms (begun t ms)
 begun_kept (leaf n k) ms = grind (arith, length-set, get_or-set_other)
 begun_kept (one n k p) ms = let h = begun_kept p (set ms n underway) in let g = begun_kept p (set ms n waiting) in grind (arith, length-set, get_or-set_other)
