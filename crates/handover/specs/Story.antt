@@ -18,10 +18,13 @@ use Rattle.relay.specs.View.{Told, told}
 use Rattle.handover.specs.Calls.{list_of}
 use Rattle.handover.specs.Texts.{told_line, ended_line, byte_text}
 
--- a line for each call on the first board, the record, and a line for each call on the second
+-- the record, and that it was taken over
+unfoldable pub handed_text : List ℕ → List ℕ
+handed_text handed = codes "hand over " ++ (flat_map byte_text handed ++ (line_end ++ (codes "taken over" ++ line_end)))
+
+-- a line for each call on the first board, the hand-over, and a line for each call on the second
 abbrev pub relay_text : List Told → List ℕ → List Told → List ℕ
-relay_text before handed later =
-    flat_map told_line before ++ (codes "hand over " ++ (flat_map byte_text handed ++ (line_end ++ flat_map told_line later)))
+relay_text before handed later = flat_map told_line before ++ (handed_text handed ++ flat_map told_line later)
 
 -- the closed instants alone
 abbrev pub instants_text : List Told → List Told → List ℕ

@@ -2,7 +2,7 @@ ghost use Rattle.std.specs.Prelude.{◌≡◌, ◌++◌, map, IfOk, OnOk, string
 ghost use Rattle.routine.specs.View.{kinds_of, signals_of};
 ghost use Rattle.relay.specs.Asked.{asked};
 ghost use Rattle.relay.specs.View.{tells};
-ghost use Rattle.handover.specs.Story.{relay_text, instants_text, told_relay, told_instants, one_way, other_way, both_text, same_text, told_lists, story_of, verdict};
+ghost use Rattle.handover.specs.Story.{handed_text, relay_text, instants_text, told_relay, told_instants, one_way, other_way, both_text, same_text, told_lists, story_of, verdict};
 
 use crate::calls::list;
 use crate::texts::{write_bytes, write_events, write_instants};
@@ -19,14 +19,23 @@ struct Telling {
     instants: String,
 }
 
-// A line for each call, and between them the record that was handed over.
+// The record that was handed over, and that it was taken over.
+#[tactic(auto, unfolding(crate::specs::Story::handed_text))]
+fn write_handed(out: &mut String, handed: &[u8]) -> Result<(), AllocError>
+    ensures { OnOk result (string_bytes out.new ≡ string_bytes out.old ++ handed_text handed.now) }
+{
+    write!(out, "hand over ")?;
+    write_bytes(out, handed)?;
+    writeln!(out)?;
+    writeln!(out, "taken over")
+}
+
+// A line for each call, and between them the hand-over.
 fn write_relayed(out: &mut String, relayed: &Relayed) -> Result<(), AllocError>
     ensures { OnOk result (string_bytes out.new ≡ string_bytes out.old ++ relay_text (map tells (vec_items relayed.now.before)) relayed.now.handed (map tells (vec_items relayed.now.later))) }
 {
     write_events(out, &relayed.before)?;
-    write!(out, "hand over ")?;
-    write_bytes(out, &relayed.handed)?;
-    writeln!(out)?;
+    write_handed(out, &relayed.handed)?;
     write_events(out, &relayed.later)
 }
 
