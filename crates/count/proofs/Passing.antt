@@ -1,5 +1,5 @@
 -- from one count to another by a record
-use Rattle.std.proofs.Common.{◌≡◌, ℕ, ◌<◌, ◌≤◌, List, length, get_or, Ok, sym, ap, ◌∙◌, ap₂}
+use Rattle.std.proofs.Common.{None, ◌≡◌, ℕ, ◌<◌, ◌≤◌, List, length, get_or, Ok, sym, ap, ◌∙◌, ap₂}
 use Rattle.routine.specs.declared.kinds.Kind.{Kind}
 use Rattle.routine.specs.declared.kinds.SignalKind.{SignalKind}
 use Rattle.record.specs.Answers.{answer}
@@ -10,7 +10,12 @@ use Rattle.record.specs.Taking.{taking_refusal, state_in}
 use Rattle.record.proofs.Answered.{not_refused}
 use Rattle.record.proofs.Kept.{kept}
 use Rattle.record.proofs.Restored.{restored}
+use Rattle.record.specs.Trips.{SameBytes}
+use Rattle.record.proofs.Lists.{few_kinds}
+use Rattle.count.specs.declared.rows.Rows.{Rows}
+use Rattle.count.specs.View.{kinds_in, signals_in}
 use Rattle.count.specs.Calls.{after}
+use Rattle.count.proofs.TakenOver.{few_signals}
 
 -- what was taken over is written again as the same bytes
 pub sent_on : (gs hs : List SignalKind) (ks ls : List Kind) (s t : State) (bytes place : List ℕ) (u v : Unit {0}) → length ks ≤ 256 → length gs ≤ 64
@@ -22,6 +27,10 @@ sent_on gs hs ks ls s t bytes place u v n g small says leaves e f written =
     ap Ok (written ∙ ap₂ (λ (x y : ℕ). record_of x y t) (ap length e) (ap length f) ∙ ap (record_of (length gs) (length ks)) state ∙ kept gs ks bytes n g small none)
     ∙ sym (ap (λ o. answer o bytes) none)
 
+-- so it is with every record that is accepted
+pub same_bytes : (t : Rows) → SameBytes (signals_in t) (kinds_in t)
+same_bytes t bytes small none = kept (signals_in t) (kinds_in t) bytes (few_kinds t.routine.table) (few_signals t) small none
+
 -- a sound state comes back from its record
 pub comes_back : (gs hs : List SignalKind) (ks ls : List Kind) (s t u : State) (bytes : List ℕ) → length ks ≤ 256 → length gs ≤ 64 → Sound gs ks s
     → bytes ≡ record_of (length gs) (length ks) s → hs ≡ gs → ls ≡ ks → u ≡ after (taking_refusal hs ls bytes) t (state_in (length ls) bytes) → u ≡ s
@@ -31,3 +40,8 @@ comes_back gs hs ks ls s t u bytes n g sound written e f leaves =
     ∙ ap (λ (ys : List Kind). after (taking_refusal gs ys bytes) t (state_in (length ys) bytes)) f
     ∙ ap (λ b. after (taking_refusal gs ks b) t (state_in (length ks) b)) written
     ∙ ap (λ o. after o t (state_in (length ks) (record_of (length gs) (length ks) s))) back.0 ∙ back.1
+
+-- and the record is accepted
+pub is_accepted : (gs : List SignalKind) (ks : List Kind) (s : State) (bytes : List ℕ) → length ks ≤ 256 → length gs ≤ 64 → Sound gs ks s
+    → bytes ≡ record_of (length gs) (length ks) s → taking_refusal gs ks bytes ≡ None
+is_accepted gs ks s bytes n g sound written = ap (taking_refusal gs ks) written ∙ (restored gs ks s n g sound).0

@@ -13,8 +13,8 @@ use signals::Board;
 
 // A routine at work: its statements with their marks, and the board on which its signals are.
 // Its marks are legal, and in phase over statement 0 is over. Only signals of the routine are present, and none outside an
-// open instant. No `impl Model`: it would hide the board, which a refused
-// call leaves as it was, and the steps stand beside the phase, since they are asked for in each (0 outside an instant).
+// open instant. No `impl Model`: it would hide the board, which a refused call leaves as it was. The steps stand beside the
+// phase, since they are asked for in every phase (0 outside an instant).
 #[derive(Debug, Drop)]
 pub struct Count<B: Board> {
     pub(crate) rows: Rows,

@@ -3,10 +3,10 @@
 pub mod answers;
 pub mod calls;
 pub mod counts;
-pub mod machine;
+mod machine;
 mod passes;
 pub mod questions;
-pub mod ready;
+mod ready;
 pub mod records;
 pub mod rows;
 pub mod trips;

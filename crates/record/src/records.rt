@@ -13,9 +13,6 @@ use crate::marks;
 use crate::phases::Phase;
 use routine::{Mark, Refusal, Routine};
 
-// A record's length.
-pub const LENGTH: usize = 279;
-
 // What a record says: its head, and marks, idle beyond the last statement.
 #[derive(Clone, Copy, Debug, PartialEq, Eq)]
 pub struct Saved {
@@ -94,7 +91,7 @@ fn head(bytes: &[u8; 279]) -> Head
     }
 }
 
-// The marks that stand in the record, and zeros after them.
+// The 256 marks that stand in the record; a zero beyond the last statement is read as idle.
 fn marks(bytes: &[u8; 279]) -> [Mark; 256]
     ensures { result ≡ marks_in 256 bytes.now }
 {

@@ -1,5 +1,5 @@
 -- what calls on a count come to, one after another; no board occurs in it
-use Rattle.std.specs.Prelude.{ℕ, List, [], ◌∷◌, ◌++◌, Some, None, Option}
+use Rattle.std.specs.Prelude.{ℕ, length, List, [], ◌∷◌, ◌++◌, Some, None, Option}
 use Rattle.signals.specs.Sets.{word_set}
 use Rattle.routine.specs.declared.kinds.Kind.{Kind}
 use Rattle.routine.specs.declared.kinds.SignalKind.{SignalKind}
@@ -11,7 +11,6 @@ use Rattle.record.specs.Taking.{taking_refusal, state_in}
 use Rattle.count.specs.declared.answers.Closing.{Closing}
 use Rattle.count.specs.Calls.{new_state, begin_refusal, begin_state, step_refusal, step_state, close_refusal, closing, close_state, react_closing, react_state}
 use Rattle.relay.specs.Asked.{Asked, begin, step, close, react, take_over}
-use Rattle.std.specs.Prelude.{length}
 
 -- what a call came to. A close and a react have the closing, the marks that remain, and the statements that were stepped in the
 -- instant, in their order

@@ -62,7 +62,7 @@ left_open v (begins w ∷ ps) = left_open [] ps
 left_open v (steps k ∷ ps) = left_open (v ++ (k ∷ [])) ps
 left_open v (closes c ms w ∷ ps) = left_open [] ps
 left_open v (reacts w c ms u ∷ ps) = left_open [] ps
-left_open v (takes_over ∷ ps) = left_open v ps
+left_open v (takes_over ∷ ps) = left_open [] ps
 left_open v (refuses r ∷ ps) = left_open v ps
 
 -- (of a routine)

@@ -1,5 +1,5 @@
 // What can be asked of a count.
-#[derive(Clone, Copy, Debug)]
+#[derive(Clone, Copy, Debug, PartialEq, Eq)]
 pub enum Call<'a> {
     Begin { word: u64 },
     Step { statement: usize },

@@ -1,8 +1,7 @@
-ghost use Rattle.std.specs.Prelude.{◌≡◌, false, map, IfOk};
+ghost use Rattle.std.specs.Prelude.{map, IfOk};
 ghost use Rattle.routine.specs.View.{kinds_of, signals_of};
 ghost use Rattle.relay.specs.Asked.{asked};
-ghost use Rattle.relay.specs.History.{history};
-ghost use Rattle.relay.specs.Promises.{taken, AsModel, SameWordsSameInstants};
+ghost use Rattle.relay.specs.Promises.{AlwaysAsModel, SameWordsSameInstants};
 ghost use Rattle.relay.specs.View.{Relays};
 
 use crate::calls::Call;
@@ -33,7 +32,7 @@ pub fn relay<A: Board + Drop, B: Board + Drop>(
     later: &[Call<'_>],
 ) -> Result<Relayed, AllocError>
     ensures tells { IfOk result (Relays (signals_of routine.table) (kinds_of routine.table) (map asked before.now) (map asked later.now)) }
-    ensures model { taken (history (signals_of routine.table) (kinds_of routine.table) (map asked before.now) (map asked later.now)) ≡ false → AsModel (signals_of routine.table) (kinds_of routine.table) (history (signals_of routine.table) (kinds_of routine.table) (map asked before.now) (map asked later.now)) }
+    ensures model { AlwaysAsModel (signals_of routine.table) (kinds_of routine.table) }
     ensures law { SameWordsSameInstants (signals_of routine.table) (kinds_of routine.table) }
 {
     let mut counter = Counter {

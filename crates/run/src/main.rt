@@ -7,7 +7,7 @@ mod tests;
 use listing::listing;
 use std::io::Read;
 
-// The programs `run` and `tablecheck` differ in the text that they make; a crate for these four lines would be no plainer.
+// `tablecheck`, `run` and `handover` differ in the text that they make; a shared function for these four lines would be no plainer.
 // Reads a table and input words from standard input and prints what a count makes of them.
 fn main(rt: HostRuntime) -> anyhow::Result<()> {
     let mut bytes = Vec::new(rt.alloc());

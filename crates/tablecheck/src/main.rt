@@ -6,7 +6,7 @@ mod report;
 use report::report;
 use std::io::Read;
 
-// The programs `run` and `tablecheck` differ in the text that they make; a crate for these four lines would be no plainer.
+// `tablecheck`, `run` and `handover` differ in the text that they make; a shared function for these four lines would be no plainer.
 // Reads a table from standard input and prints whether it is a routine.
 fn main(rt: HostRuntime) -> anyhow::Result<()> {
     let mut bytes = Vec::new(rt.alloc());
