@@ -1,4 +1,4 @@
-ghost use Rattle.std.specs.Prelude.{◌≡◌, ◌^◌, ◌<◌, ◌≤◌};
+ghost use Rattle.std.specs.Prelude.{◌≡◌, ◌+◌, ◌*◌, ◌^◌, ◌<◌, ◌≤◌};
 ghost use Rattle.signals.specs.Sets.{word_set};
 ghost use Rattle.rules.specs.Rules.{apply};
 ghost use Rattle.count.specs.Calls.{bit, IsWordOf};
@@ -30,6 +30,7 @@ pub(crate) fn word_of<F: Fn(usize) -> bool>(n: usize, has: F) -> u64
 pub(crate) fn width(word: u64) -> u8
     ensures short { result ≤ 64 }
     ensures within { word < 2 ^ result }
+    ensures highest { 2 ^ result ≤ 2 * word + 1 }
 {
     (64 - word.leading_zeros()) as u8
 }
