@@ -15,8 +15,9 @@ A list is tools/plants/CRATE.txt. A plant is a block of lines, and an empty line
     unbuilt: the error's name  only where it must not even build, as a use of what was handed over
 
 Each crate is planted in a copy of the repository under the folder for temporary files, so nothing here is altered. A plant is
-refused if `rt check` of the crate does not prove it; the report says by which goal. The exit status is 1 if one that is not
-marked as the same is let through, or one cannot be planted.
+refused if `rt check` of the crate does not prove it; the report says by which goal. Where a proof cites a name that the plant
+takes away, the check stops at that name and shows nothing of the contract: this one cannot be planted. The exit status is 1 if
+one that is not marked as the same is let through, or one cannot be planted.
 """
 import pathlib
 import re
@@ -47,7 +48,7 @@ def reason(output):
     """The first thing that the check does not accept."""
     for line in output.splitlines():
         if re.search(r"it is not proved|found no proof|no proof:|: error", line):
-            return re.sub(r"; the facts known there.*", "", line.replace("note: ", "", 1))[:200]
+            return re.sub(r"; the facts known there.*", "", line.replace("note: ", "", 1))
     return "not proved"
 
 
@@ -73,7 +74,10 @@ def try_plant(crate, plant, copy):
     if unbuilt:
         return f"cannot be planted: {unbuilt.group()[:160]}", False
     if not proved:
-        return f"refused: {reason(output)}", "same" not in plant
+        why = reason(output)
+        if re.search(r"(record|module) `\S*\.proofs\.\S*` has no ", why):
+            return f"cannot be planted: {why[:300]}", False
+        return f"refused: {why[:200]}", "same" not in plant
     if "same" in plant:
         return f"the same: {plant['same']}", True
     return "LET THROUGH", False
@@ -87,7 +91,7 @@ def try_crate(crate, function):
         shutil.copytree(TOP / "crates", copy / "crates")
         proved, output = check(copy / "crates" / crate)
         if not proved:
-            print(f"{crate}: is not proved as it stands: {reason(output)}")
+            print(f"{crate}: is not proved as it stands: {reason(output)[:200]}")
             return False
         for plant in plants(crate):
             if function and plant["function"] != function:
