@@ -25,7 +25,9 @@ pub mod Model
 pub mod Models
 pub mod Instants
 pub mod Inward
+pub mod Locality
 pub mod Promises
+pub mod Lowest
 pub mod OpenLocals
 pub mod Stays
 pub mod TakesTime

@@ -4,13 +4,14 @@ use Rattle.std.proofs.Math.Decide.{ℕ_discrete}
 use Rattle.signals.specs.Sets.{word_set}
 use Rattle.routine.specs.declared.kinds.Kind.{Kind}
 use Rattle.routine.specs.declared.kinds.SignalKind.{SignalKind}
+use Rattle.routine.specs.Search.{lowest}
 use Rattle.routine.specs.Tree.{tree_at, contains, inside, can_end}
 use Rattle.routine.specs.Layout.{Formed}
 use Rattle.routine.specs.Meaning.{passes}
 use Rattle.rules.specs.Runs.{Run, Quiet, count}
-use Rattle.rules.specs.Rules.{Mark, idle, Signals, at, begun, over, ready, fire, ended}
+use Rattle.rules.specs.Rules.{Mark, idle, Signals, at, begun, over, rule, ready, fire, ended}
 use Rattle.rules.specs.Legal.{Legal}
-use Rattle.rules.specs.Model.{Config, Ready, stepped, settled, path, enough, first_marks, total, closed, instant}
+use Rattle.rules.specs.Model.{Config, Ready, stepped, lowest_ready, settled, path, enough, first_marks, total, closed, instant}
 
 -- the signals and statements of a routine: what reading and checking leave
 pub record Checked (gs : List SignalKind) (ks : List Kind) : Type 0 where
@@ -78,3 +79,11 @@ module _ (gs : List SignalKind) (ks : List Kind) where
   SameOutcome =
       (ms : List Mark) (input : ℕ) (x : Config) (v : List ℕ) → Legal true ks ms
       → Run (Ready ks) (stepped ks) (ms, word_set input) v x → Quiet (Ready ks) x → closed gs ks x v ≡ instant gs ks ms input
+
+module _ (gs : List SignalKind) (ks : List Kind) where
+  -- for any marks and signals, the lowest statement whose own rule applies is the lowest ready one, and no rule applies exactly
+  -- if none is ready: a local that is shut is ready itself, and has a lower number than all inside it
+  pub record LowestByRule : Type 0 where
+    pub same : (c : Config) → lowest (λ i. rule (tree_at ks i) c.0 c.1) (length ks) ≡ lowest_ready ks c
+    pub none_applies : (c : Config) → Quiet (Ready ks) c → (i : ℕ) → i < length ks → rule (tree_at ks i) c.0 c.1 ≡ false
+    pub none_ready : (c : Config) → ((i : ℕ) → i < length ks → rule (tree_at ks i) c.0 c.1 ≡ false) → Quiet (Ready ks) c

@@ -1,7 +1,7 @@
 // The theorems of the rules. Each function computes nothing: its contract is the theorem, of the routine that it is lent.
 ghost use Rattle.std.specs.Prelude.{◌≡◌, ◌*◌, length};
 ghost use Rattle.routine.specs.View.{signals_of, kinds_of};
-ghost use Rattle.rules.specs.Theorems.{Checked, NothingReadyInside, EitherOrder, OrderNeverShows, InstantEnds, StepsAddUp, SameOutcome, MarksStayLegal, TakesTime};
+ghost use Rattle.rules.specs.Theorems.{Checked, NothingReadyInside, EitherOrder, OrderNeverShows, InstantEnds, StepsAddUp, SameOutcome, MarksStayLegal, TakesTime, LowestByRule};
 
 use routine::Routine;
 
@@ -40,4 +40,9 @@ pub fn takes_time(routine: &Routine)
 // The marks at the start are legal, and begin, step and the end of the instant keep them so.
 pub fn marks_stay_legal(routine: &Routine)
     ensures { MarksStayLegal (signals_of routine.now.table) (kinds_of routine.now.table) }
+{}
+
+// The lowest statement whose own rule applies is the lowest ready one, and no rule applies exactly if none is ready.
+pub fn lowest_by_rule(routine: &Routine)
+    ensures { LowestByRule (signals_of routine.now.table) (kinds_of routine.now.table) }
 {}

@@ -1,0 +1,9 @@
+use Rattle.routine.specs.View.{signals_of, kinds_of}
+use Rattle.rules.proofs.Checked.{of_routine}
+use Rattle.rules.proofs.Lowest.{lowest_by_rule}
+use Rattle.rules.proofs.theorems.lowest_by_rule.Goals as goal
+
+pub returns : goal.returns
+returns c =
+    let r = c.args.routine.now in
+    lowest_by_rule (signals_of r.table) (kinds_of r.table) (of_routine r)
