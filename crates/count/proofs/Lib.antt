@@ -1,12 +1,13 @@
 pub mod RowLists
 pub mod Shown
-pub mod Least
 pub mod Sound
 pub mod OutputWords
-pub mod Reach
-pub mod Along
+pub mod Woken
+pub mod Aside
+pub mod Within
+pub mod Front
+pub mod Guarding
 pub mod Settling
-pub mod Reactions
 pub mod Presence
 pub mod TakenOver
 pub mod Passing

@@ -9,6 +9,7 @@ use Rattle.routine.specs.declared.kinds.Mark.{Mark}
 use Rattle.routine.specs.declared.kinds.Mark.TheVariants.{Idle}
 use Rattle.routine.specs.Kinds.{kinds, marks}
 use Rattle.routine.specs.Layout.{Formed}
+use Rattle.count.specs.Front.{Guards, Waiters}
 use Rattle.routine.specs.Meaning.{passes}
 use Rattle.record.proofs.Lists.{marks_length}
 use Rattle.count.specs.declared.rows.Rows.{Rows}
@@ -28,6 +29,12 @@ formed_kept g ks ls e f = subst (Formed g) (sym e) f
 
 pub passes_kept : (gs : List SignalKind) (ks ls : List Kind) → ls ≡ ks → passes gs ks ≡ true → passes gs ls ≡ true
 passes_kept gs ks ls e f = ap (passes gs) e ∙ f
+
+pub guards_kept : (vs : List ℕ) (ks ls : List Kind) → ls ≡ ks → Guards ks vs → Guards ls vs
+guards_kept vs ks ls e g = subst (λ (ms : List Kind). Guards ms vs) (sym e) g
+
+pub waiters_kept : (ws : List ℕ) (ks ls : List Kind) → ls ≡ ks → Waiters ks ws → Waiters ls ws
+waiters_kept ws ks ls e g = subst (λ (ms : List Kind). Waiters ms ws) (sym e) g
 
 -- how many marks there are
 rows_many : (t : Rows) → length (marks_in t) ≡ count_in t

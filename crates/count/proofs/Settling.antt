@@ -1,124 +1,154 @@
--- passes until nothing is ready, and what the model makes of them
-use Rattle.std.proofs.Common.{◌≡◌, ℕ, zero, suc, ◌+◌, ◌*◌, ◌≤◌, Bool, true, false, cond, List, [], ◌∷◌, ◌++◌, length, None, sym, refl, ap, ◌∙◌, subst, ap₂, arith, length-append}
+-- turns of the lowest ready statement until none is ready: where they lead is what the model says
+use Rattle.std.proofs.Common.{◌≡◌, ℕ, zero, suc, ◌+◌, ◌<◌, ◌≤◌, Bool, true, cond, List, [], ◌∷◌, ◌++◌, length, Some, None, sym, refl, ap, ◌∙◌, subst, ap₂, arith, length-append}
 use Rattle.std.proofs.lemmas.Bool.{lt-ltb}
+use Rattle.std.proofs.lemmas.List.{append-nil, append_assoc}
 use Rattle.routine.specs.declared.kinds.Kind.{Kind}
-use Rattle.routine.specs.declared.kinds.SignalKind.{SignalKind}
-use Rattle.routine.specs.Tree.{tree_at}
-use Rattle.routine.proofs.Searches.{lowest_none}
-use Rattle.signals.specs.Sets.{word_set, empty}
-use Rattle.rules.specs.Runs.{Run, still, then, Quiet}
-use Rattle.rules.specs.Rules.{over, ready}
-use Rattle.rules.specs.Legal.{Legal}
-use Rattle.rules.specs.Model.{Config, Ready, stepped, settled, path, enough, Outcome, instant}
-use Rattle.rules.specs.Theorems.{Checked}
-use Rattle.rules.proofs.Promises.{instant_ends, order_never_shows}
-use Rattle.rules.proofs.Sums.{same_outcome}
-use Rattle.record.specs.declared.phases.Phase.{Phase}
-use Rattle.record.specs.declared.phases.Phase.TheVariants.{Open}
+use Rattle.routine.specs.Search.{lowest}
+use Rattle.routine.proofs.Searches.{Found, found}
+use Rattle.rules.specs.Model.{Config, stepped, lowest_ready, turned, settled, first_then, path, enough}
 use Rattle.record.specs.State.{State}
-use Rattle.count.specs.Calls.{one_more, step_state, begin_state, close_refusal, close_state, react_state, still_ready}
-use Rattle.count.specs.Passes.{ReadyFrom, Goes, Settles}
-use Rattle.count.proofs.Sound.{same_phase, never}
-use Rattle.count.proofs.Reach.{joined}
+use Rattle.count.specs.Calls.{one_more, step_state, steps_from, settled_state}
+use Rattle.count.specs.Traces.{Trace, Extends}
 
-abbrev at : State → Config
+-- where an open instant stands
+abbrev pub at : State → Config
 at s = (s.marks, s.present)
 
--- a run of the count's states is one of the rules', and changes marks, set and steps alone
-runs : (ks : List Kind) (i : ℕ) {s t : State} {v : List ℕ} → Run (ReadyFrom ks i) (step_state ks) s v t → Run (Ready ks) (stepped ks) (at s) v (at t)
-runs ks i still = still
-runs ks i (then h r) = then h.1 (runs ks i r)
+-- what is found is ready
+pub some_ready : (P : ℕ → Bool) (n : ℕ) {k : ℕ} → Some k ≡ lowest P n → P k ≡ true
+some_ready P n h = subst (Found P n) (sym h) (found P n)
 
--- steps so many times grown
-grown : ℕ → ℕ → ℕ
-grown zero n = n
-grown (suc k) n = grown k (one_more n)
+-- the turns w have led from s to t and were told, and the rest of the model's path is its path from t
+pub record Turned (ks : List Kind) (s t : State) (from to : Trace) (turns : ℕ) : Type 0 where
+  pub steps : List ℕ
+  pub many : length steps ≡ turns
+  pub left : ℕ
+  pub bound : turns + left ≡ enough ks
+  pub paths : path ks (enough ks) (at s) ≡ steps ++ path ks left (at t)
+  pub ends : settled ks (enough ks) (at s) ≡ settled ks left (at t)
+  pub stands : t ≡ record { phase = s.phase; closed = s.closed; steps = turns; marks = t.marks; present = t.present }
+  pub told : Extends from to steps
 
-grows : (k n : ℕ) → n + k ≤ 65535 → grown k n ≡ n + k
-unfolding grown
-grows zero n l = omega arith
-grows (suc k) n l =
-    let e : one_more n ≡ n + 1 = ap (λ b. cond b (n + 1) n) (lt-ltb n 65535 (omega arith)) in
-    ap (grown k) e ∙ grows k (n + 1) (omega arith) ∙ omega arith
+module _ (ks : List Kind) (c : Config) where
+  -- one turn, where k is the lowest that is ready
+  module _ (k : ℕ) (h : lowest_ready ks c ≡ Some k) (left : ℕ) where
+    path_step : path ks (suc left) c ≡ k ∷ path ks left (stepped ks c k)
+    unfolding path
+    path_step = ap (λ o. first_then o (λ i. path ks left (stepped ks c i))) h
 
-ends : (ks : List Kind) (i : ℕ) {s t : State} {v : List ℕ} → Run (ReadyFrom ks i) (step_state ks) s v t
-    → t ≡ record { phase = s.phase; closed = s.closed; steps = grown (length v) s.steps; marks = t.marks; present = t.present }
-unfolding grown
-ends ks i still = refl
-ends ks i (then h r) = ends ks i r
+    settled_step : settled ks (suc left) c ≡ settled ks left (stepped ks c k)
+    unfolding settled
+    settled_step = ap (λ o. settled ks left (turned ks c o)) h
 
-not_true : (b : Bool) → (b ≡ true → ⊥) → b ≡ false
-not_true true h = absurd (h refl)
-not_true false h = refl
+  path_zero : path ks zero c ≡ []
+  unfolding path
+  path_zero = refl
 
--- passes so far, with n steps at least
-pub record Gone (ks : List Kind) (n : ℕ) (s t : State) : Type 0 where
-  pub path : List ℕ
-  pub run : Run (ReadyFrom ks 0) (step_state ks) s path t
-  pub many : n ≤ length path
+  settled_zero : settled ks zero c ≡ c
+  unfolding settled
+  settled_zero = refl
 
-pub gone_none : (ks : List Kind) (s : State) → Gone ks 0 s s
-gone_none ks s = record { path = []; run = still; many = omega arith }
+  -- none, where nothing is ready
+  module _ (h : lowest_ready ks c ≡ None) where
+    path_ends : (left : ℕ) → path ks left c ≡ []
+    unfolding path
+    path_ends zero = refl
+    path_ends (suc left) = ap (λ o. first_then o (λ i. path ks left (stepped ks c i))) h
 
-module _ (ks ls : List Kind) (e : ls ≡ ks) {n : ℕ} {s t u : State} {b : Bool} (h : Gone ks n s t) (g : Goes ls 0 t u b) where
-  last : Goes ks 0 t u b
-  last = subst (λ (ms : List Kind). Goes ms 0 t u b) e g
+    settled_ends : (left : ℕ) → settled ks left c ≡ c
+    unfolding settled
+    settled_ends zero = refl
+    settled_ends (suc left) = ap (λ o. settled ks left (turned ks c o)) h ∙ settled_ends left
 
-  pub gone_more : b ≡ true → Gone ks (n + 1) s u
-  gone_more y =
-      let l = last.moved y in
-      let m = h.many in
-      record { path = h.path ++ last.path; run = joined h.run last.run; many = omega (arith, length-append h.path last.path) }
+extends_none : (t : Trace) → Extends t t []
+extends_none t = record { kept = λ h. h; told = λ h. sym (append-nil t.steps) }
 
-  pub settles_here : b ≡ false → ((k : ℕ) → ready (tree_at ls 0) t.marks t.present k ≡ false) → Settles ks s u
-  settles_here y q =
-      subst (Settles ks s) (sym (last.stayed y))
-      record { path = h.path; run = h.run; quiet = subst (λ (ms : List Kind). (k : ℕ) → ready (tree_at ms 0) t.marks t.present k ≡ false) e q }
+extends_more : {s t u : Trace} (v w : List ℕ) → Extends s t v → Extends t u w → Extends s u (v ++ w)
+extends_more {s = s} v w g h =
+    record {
+      kept = λ x. g.kept (h.kept x);
+      told = λ x. h.told x ∙ ap (λ (xs : List ℕ). xs ++ w) (g.told (h.kept x)) ∙ append_assoc s.steps v w;
+    }
 
-module _ (gs : List SignalKind) (ks : List Kind) (C : Checked gs ks) where
-  -- nothing is ready after as many steps as an instant can have
-  pub settles_at_last : {n : ℕ} {s t : State} → Legal true ks s.marks → 4 * length ks ≤ n → Gone ks n s t → Settles ks s t
-  settles_at_last {s = s} {t = t} L l h =
+pub turned_none : (ks : List Kind) (s : State) (from : Trace) → s.steps ≡ 0 → Turned ks s s from from 0
+turned_none ks s from e =
+    record {
+      steps = [];
+      many = refl;
+      left = enough ks;
+      bound = omega arith;
+      paths = refl;
+      ends = refl;
+      stands = ap (λ (n : ℕ). record { phase = s.phase; closed = s.closed; steps = n; marks = s.marks; present = s.present }) e;
+      told = extends_none from;
+    }
+
+module _ (ks : List Kind) {s t : State} {from to : Trace} {n : ℕ} (h : Turned ks s t from to n) where
+  -- a turn more, of which the tracer is told
+  pub turned_more : (ls : List Kind) (k : ℕ) (u : State) (next : Trace) → ls ≡ ks → n < enough ks → enough ks ≤ 65535
+      → Some k ≡ lowest_ready ls (at t) → u ≡ step_state ls t k → Extends to next (k ∷ []) → Turned ks s u from next (n + 1)
+  turned_more ls k u next e l f o x g = go h.left refl
+    where
+      ready : lowest_ready ks (at t) ≡ Some k
+      ready = ap (λ (ms : List Kind). lowest_ready ms (at t)) (sym e) ∙ sym o
+
+      stepping : u ≡ step_state ks t k
+      stepping = x ∙ ap (λ (ms : List Kind). step_state ms t k) e
+
+      one_step : t.steps ≡ n → one_more t.steps ≡ n + 1
+      one_step z = ap one_more z ∙ ap (λ b. cond b (n + 1) n) (lt-ltb n 65535 (omega arith))
+
+      go : (left : ℕ) → h.left ≡ left → Turned ks s u from next (n + 1)
+      go zero z = let b = h.bound in absurd (omega arith)
+      go (suc left) z =
+          let w = h.steps in
+          let c = at t in
+          record {
+            steps = w ++ (k ∷ []);
+            many = let m = h.many in omega (arith, length-append w (k ∷ []));
+            left = left;
+            bound = let b = h.bound in omega arith;
+            paths =
+                h.paths ∙ ap (λ (m : ℕ). w ++ path ks m c) z ∙ ap (λ (v : List ℕ). w ++ v) (path_step ks c k ready left)
+                ∙ sym (append_assoc w (k ∷ []) (path ks left (stepped ks c k))) ∙ ap (λ (v : State). (w ++ (k ∷ [])) ++ path ks left (at v)) (sym stepping);
+            ends =
+                h.ends ∙ ap (λ (m : ℕ). settled ks m c) z ∙ settled_step ks c k ready left ∙ ap (λ (v : State). settled ks left (at v)) (sym stepping);
+            stands =
+                stepping
+                ∙ ap₂ (λ (v : State) (m : ℕ). record { phase = v.phase; closed = v.closed; steps = m; marks = (step_state ks t k).marks; present = (step_state ks t k).present })
+                h.stands (one_step (ap (λ (v : State). v.steps) h.stands))
+                ∙ ap (λ (v : State). record { phase = s.phase; closed = s.closed; steps = n + 1; marks = v.marks; present = v.present }) (sym stepping);
+            told = extends_more w (k ∷ []) h.told g;
+          }
+
+  -- what the turns come to where no more is to follow
+  pub record Settled : Type 0 where
+    pub leaves : t ≡ settled_state ks s
+    pub told : Extends from to (steps_from ks s)
+    pub turns : n ≡ t.steps
+
+  rests : path ks h.left (at t) ≡ [] → settled ks h.left (at t) ≡ at t → Settled
+  rests p q =
+      let w : steps_from ks s ≡ h.steps = h.paths ∙ ap (λ (v : List ℕ). h.steps ++ v) p ∙ append-nil h.steps in
       record {
-        path = h.path;
-        run = h.run;
-        quiet = λ k. not_true _ (λ r.
-            let b = (instant_ends gs ks C).bounded (at s) _ (h.path ++ (k ∷ [])) L (runs ks 0 (joined h.run (then (omega arith, r) still))) in
-            let m = h.many in
-            absurd (omega (arith, length-append h.path (k ∷ []))));
+        leaves =
+            h.stands
+            ∙ ap₂ (λ (m : ℕ) (c : Config). record { phase = s.phase; closed = s.closed; steps = m; marks = c.0; present = c.1 })
+            (sym h.many ∙ ap length (sym w)) (sym (h.ends ∙ q));
+        told = subst (Extends from to) (sym w) h.told;
+        turns = sym (ap (λ (v : State). v.steps) h.stands);
       }
 
--- passes until nothing is ready, and then the close, are the model's instant
-module _ (gs : List SignalKind) (ks : List Kind) (C : Checked gs ks) (few : length ks ≤ 256) (s : State) (word : ℕ) (L : Legal true ks s.marks) where
-  abbrev c₀ : Config
-  c₀ = (s.marks, word_set word)
+  -- nothing is ready
+  pub settled_here : (ls : List Kind) → ls ≡ ks → None ≡ lowest_ready ls (at t) → Settled
+  settled_here ls e o =
+      let r : lowest_ready ks (at t) ≡ None = ap (λ (ms : List Kind). lowest_ready ms (at t)) (sym e) ∙ sym o in
+      rests (path_ends ks (at t) r h.left) (settled_ends ks (at t) r h.left)
 
-  abbrev pub final : State
-  final =
-      record {
-        phase = Open;
-        closed = s.closed;
-        steps = length (path ks (enough ks) c₀);
-        marks = (settled ks (enough ks) c₀).0;
-        present = (settled ks (enough ks) c₀).1;
-      }
-
-  pub settles_to : (t : State) → Settles ks (begin_state s word) t → t ≡ final
-  settles_to t h =
-      let r = runs ks 0 h.run in
-      let q : Quiet (Ready ks) (at t) = λ k x. never _ x (h.quiet k) in
-      let b = (instant_ends gs ks C).bounded c₀ (at t) h.path L r in
-      ends ks 0 h.run
-      ∙ ap₂ (λ (n : ℕ) (c : Config). record { phase = Open; closed = s.closed; steps = n; marks = c.0; present = c.1 })
-      (grows (length h.path) 0 (omega arith) ∙ omega arith ∙ ap (λ (o : Outcome). o.steps) (same_outcome gs ks C s.marks word (at t) h.path L r q))
-      ((order_never_shows gs ks C).as_model c₀ (at t) h.path L r q).0
-
-  pub closes : close_refusal ks final ≡ None
-  closes =
-      ap still_ready (lowest_none (ready (tree_at ks 0) (settled ks (enough ks) c₀).0 (settled ks (enough ks) c₀).1) (length ks)
-      (λ k l. not_true _ ((instant_ends gs ks C).model_quiet c₀ L k)))
-
-  pub leaves : close_state ks final ≡ react_state gs ks s word
-  leaves =
-      ap (λ (p : Phase). record { phase = p; closed = s.closed + 1; steps = 0; marks = (instant gs ks s.marks word).marks; present = empty })
-      (same_phase (over (tree_at ks 0) (settled ks (enough ks) c₀).0))
+  -- as many turns as an instant can have
+  pub settled_at_last : enough ks ≤ n → Settled
+  settled_at_last l = go h.left refl
+    where
+      go : (left : ℕ) → h.left ≡ left → Settled
+      go zero z = rests (ap (λ (m : ℕ). path ks m (at t)) z ∙ path_zero ks (at t)) (ap (λ (m : ℕ). settled ks m (at t)) z ∙ settled_zero ks (at t))
+      go (suc left) z = let b = h.bound in absurd (omega arith)

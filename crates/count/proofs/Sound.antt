@@ -1,11 +1,10 @@
 -- what the calls leave of a count's invariant, over its rows
-use Rattle.std.proofs.Common.{◌≡◌, ℕ, ◌<◌, Bool, true, false, ◌||◌, List, length, replicate, sym, refl, ap, ◌∙◌, subst, ap₂, arith, ext_get_or}
+use Rattle.std.proofs.Common.{◌≡◌, ℕ, ◌<◌, ◌≤◌, Bool, true, false, ◌||◌, List, length, replicate, sym, refl, ap, ◌∙◌, subst, ap₂, arith, ext_get_or}
 use lib.ListN.{length-replicate}
 use Rattle.routine.specs.declared.kinds.Kind.{Kind}
 use Rattle.routine.specs.Tree.{tree_at}
 use Rattle.routine.specs.Search.{lowest}
-use Rattle.routine.proofs.Whole.{some_statement, rises}
-use Rattle.rules.specs.Rules.{rule, Two, is_done, two_over, two_ended, Mark, idle, Signals, Tree, leaf, one, two, at, begun, idled, over, ready, fire, ended}
+use Rattle.rules.specs.Rules.{rule, leaf_rule, two_rule, Leaf, Two, is_done, two_over, two_ended, Mark, idle, Signals, Tree, leaf, one, two, at, begun, idled, over, ready, fire, ended}
 use Rattle.rules.specs.Legal.{Legal, keeps, two_legal}
 use Rattle.rules.specs.Model.{first_marks, status_of}
 use Rattle.rules.specs.Theorems.{Checked, MarksStayLegal}
@@ -25,10 +24,10 @@ use Rattle.count.specs.View.{kinds_in, marks_in, signals_in, count_in, tree_in, 
 use Rattle.record.specs.declared.phases.Phase.{Phase}
 use Rattle.record.specs.Phases.{is_open, is_over, phase_of}
 use Rattle.count.specs.Calls.{phase_after}
-use Rattle.count.specs.Machine.{least_ready, applies, heard}
+use Rattle.count.specs.Machine.{leaf_heard, two_heard, leaf_applies, two_applies, applies, heard}
 use Rattle.rules.proofs.Inward.{own_rule}
+use Rattle.rules.proofs.Lowest.{by_rule}
 use Rattle.record.proofs.Lists.{marks_many, kinds_many as table_kinds}
-use Rattle.count.proofs.Least.{finds_lowest, leaf_same, two_same}
 
 abbrev pub Keeps : Bool → List Kind → List Mark → Type 0
 Keeps now ks ms = (i : ℕ) → i < length ks → keeps now ks ms i ≡ true
@@ -49,11 +48,17 @@ module _ (t : Rows) where
   pub legal : (now : Bool) → Keeps now (kinds_in t) (marks_in t) → Legal now (kinds_in t) (marks_in t)
   legal now h = record { many = many; each = h }
 
+  pub few : length (kinds_in t) ≤ 256
+  few = let m = kinds_many in let l = t.routine.table.most in omega arith
+
+  pub open_legal : (p : Phase) → is_open p ≡ true → Keeps (is_open p) (kinds_in t) (marks_in t) → Legal true (kinds_in t) (marks_in t)
+  open_legal p o h = legal true (subst (λ b. Keeps b (kinds_in t) (marks_in t)) o h)
+
   pub stays : MarksStayLegal (signals_in t) (kinds_in t)
   stays = marks_stay_legal (signals_in t) (kinds_in t) checked
 
-  pub least_is_lowest : (e : Signals) → least_ready (tree_in t 0) (marks_in t) e ≡ lowest (ready (tree_in t 0) (marks_in t) e) (length (kinds_in t))
-  least_is_lowest e = finds_lowest (kinds_in t) (rises t.routine) (marks_in t) e (some_statement t.routine)
+  pub lowest_rule : (e : Signals) → lowest (λ i. rule (tree_in t i) (marks_in t) e) (length (kinds_in t)) ≡ lowest (ready (tree_in t 0) (marks_in t) e) (length (kinds_in t))
+  lowest_rule e = by_rule (signals_in t) (kinds_in t) checked (marks_in t) e
 
   -- all idle
   idle_all : (ms : List Mark) → length ms ≡ length (kinds_in t) → idled (tree_in t 0) ms ≡ replicate (length (kinds_in t)) idle
@@ -77,9 +82,6 @@ moved now t u ms e f L = subst (λ (ks : List Kind). Keeps now ks (marks_in u)) 
 pub new_keeps : (t u v : Rows) → Marked t u (idled (tree_in t 0) (marks_in t)) → Marked u v (begun (tree_in u 0) (marks_in u)) → Keeps false (kinds_in v) (marks_in v)
 new_keeps t u v a b = moved false t v _ (b.kinds ∙ a.kinds) (begun_anew t u v a b) (stays t).starts
 
-pub begin_keeps : (t : Rows) → Keeps false (kinds_in t) (marks_in t) → Keeps true (kinds_in t) (marks_in t)
-begin_keeps t h = ((stays t).begins (marks_in t) (legal t false h)).each
-
 pub step_keeps : (t u : Rows) (e : Signals) (k : ℕ) → Keeps true (kinds_in t) (marks_in t) → ready (tree_in t 0) (marks_in t) e k ≡ true
     → Marked t u (fire (tree_in t k) (marks_in t)) → Keeps true (kinds_in u) (marks_in u)
 step_keeps t u e k h r m = moved true t u _ m.kinds m.marks ((stays t).steps (marks_in t, e) k (legal t true h) r)
@@ -87,10 +89,21 @@ step_keeps t u e k h r m = moved true t u _ m.kinds m.marks ((stays t).steps (ma
 pub end_keeps : (t u : Rows) (e : Signals) → Keeps true (kinds_in t) (marks_in t) → Marked t u (ended (tree_in t 0) (marks_in t) e) → Keeps false (kinds_in u) (marks_in u)
 end_keeps t u e h m = moved false t u _ m.kinds m.marks ((stays t).ends (marks_in t, e) (legal t true h))
 
+leaf_same : (e : Signals) (m : Mark) (k : Leaf) → leaf_rule e m k ≡ leaf_applies m k (leaf_heard k e)
+leaf_same e m k = grind arith
+
+two_same : (e : Signals) (m : Mark) (k : Two) (o : Bool) → two_rule e m k o ≡ two_applies m k o (two_heard k e)
+two_same e m k o = grind arith
+
 pub rule_same : (t : Tree) (ms : List Mark) (e : Signals) → rule t ms e ≡ applies t ms (heard t e)
 rule_same (leaf n k) ms e = leaf_same e (at ms n) k
 rule_same (one n k p) ms e = refl
 rule_same (two n k p q) ms e = two_same e (at ms n) k (over p ms)
+
+-- what the code tests is the rule
+pub rule_told : (t : Rows) (e : Signals) (i : ℕ) (here applied : Bool) → here ≡ heard (tree_in t i) e → applied ≡ applies (tree_in t i) (marks_in t) here
+    → applied ≡ rule (tree_in t i) (marks_in t) e
+rule_told t e i here applied h a = a ∙ ap (applies (tree_in t i) (marks_in t)) h ∙ sym (rule_same (tree_in t i) (marks_in t) e)
 
 -- what is ready is a statement
 ready_in : (t : Tree) (ms : List Mark) (e : Signals) (k : ℕ) → ready t ms e k ≡ true → In t k
@@ -115,9 +128,6 @@ pub step_sound : (p : Phase) (t u : Rows) (e : Signals) (k : ℕ) → is_open p 
     → Marked t u (fire (tree_in t k) (marks_in t)) → Keeps (is_open p) (kinds_in u) (marks_in u)
 step_sound p t u e k o h r m =
     subst (λ b. Keeps b (kinds_in u) (marks_in u)) (sym o) (step_keeps t u e k (subst (λ b. Keeps b (kinds_in t) (marks_in t)) o h) r m)
-
-pub begin_sound : (p : Phase) (t : Rows) → is_open p ≡ false → Keeps (is_open p) (kinds_in t) (marks_in t) → Keeps true (kinds_in t) (marks_in t)
-begin_sound p t o h = begin_keeps t (subst (λ b. Keeps b (kinds_in t) (marks_in t)) o h)
 
 -- what is over keeps its marks at the end
 over_ended : (t : Tree) (ms : List Mark) (e : Signals) → Lawful (marked t ms) → over t ms ≡ true → ended t ms e ≡ ms

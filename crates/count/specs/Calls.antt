@@ -10,7 +10,7 @@ use Rattle.routine.specs.Search.{lowest}
 use Rattle.routine.specs.Tree.{tree_at}
 use Rattle.routine.specs.Meaning.{is_input, signal_at}
 use Rattle.rules.specs.Rules.{Signals, over, ready, fire, effect_of, apply, ended}
-use Rattle.rules.specs.Model.{word_from, is_output, outputs_of, status_of, first_marks, Outcome, instant}
+use Rattle.rules.specs.Model.{word_from, is_output, outputs_of, status_of, first_marks, settled, path, enough, Outcome, instant}
 use Rattle.record.specs.declared.phases.Phase.{Phase}
 use Rattle.record.specs.declared.phases.Phase.TheVariants.{Resting, Open, Over}
 use Rattle.count.specs.declared.answers.Closing.{Closing}
@@ -132,3 +132,18 @@ rested closed o = record { phase = phase_of o.status; closed = closed + 1; steps
 
 abbrev pub react_state : List SignalKind → List Kind → State → ℕ → State
 react_state gs ks s word = rested s.closed (instant gs ks s.marks word)
+
+-- the statements that a reaction steps from an open instant: each time the lowest ready one, until none is ready
+abbrev pub steps_from : List Kind → State → List ℕ
+steps_from ks s = path ks (enough ks) (s.marks, s.present)
+
+-- where that leads, if there was no step before
+abbrev pub settled_state : List Kind → State → State
+settled_state ks s =
+    record {
+      phase = s.phase;
+      closed = s.closed;
+      steps = length (steps_from ks s);
+      marks = (settled ks (enough ks) (s.marks, s.present)).0;
+      present = (settled ks (enough ks) (s.marks, s.present)).1;
+    }

@@ -2,5 +2,6 @@ pub mod View
 pub mod Machine
 pub mod Calls
 pub mod CountView
-pub mod Passes
+pub mod Front
+pub mod Traces
 pub mod Texts

@@ -1,9 +1,9 @@
--- the rules as the code takes them: with the presence of a statement's own signal, and the lowest ready statement in one pass
-use Rattle.std.specs.Prelude.{ℕ, min, Bool, true, false, cond, List, Some, None, Option, slice_index_or}
+-- the rules as the code takes them: with the presence of a statement's own signal
+use Rattle.std.specs.Prelude.{Bool, true, false, List, slice_index_or}
 use Rattle.rules.specs.Rules.{Mark, idle, waiting, underway, done, Leaf, nothing, stop, emit, wait, One, loop, kill, local, Two, sequence, parallel, when, Tree, leaf, one, two}
 use Rattle.routine.specs.declared.kinds.Kind.{Kind}
 use Rattle.routine.specs.declared.kinds.Kind.TheVariants.{Nothing, Stop, Emit, Wait, Sequence, Parallel, Loop, When, Kill, Local}
-use Rattle.rules.specs.Rules.{Signals, at, over, one_rule, shut, Effect, quiet, raises, drops}
+use Rattle.rules.specs.Rules.{Signals, at, over, one_rule, Effect, quiet, raises, drops}
 
 -- the statement's own signal is present
 abbrev pub leaf_heard : Leaf → Signals → Bool
@@ -62,15 +62,3 @@ kind_effect (Loop a) = quiet
 kind_effect (When s a b) = quiet
 kind_effect (Kill s a) = quiet
 kind_effect (Local s a) = drops s
-
--- the lower of two numbers, where there are any
-abbrev pub lower_of : Option ℕ → Option ℕ → Option ℕ
-lower_of None b = b
-lower_of (Some a) None = Some a
-lower_of (Some a) (Some b) = Some (min a b)
-
--- the lowest ready statement of a tree: its own statement has a lower number than all inside
-abbrev pub least_ready : Tree → List Mark → Signals → Option ℕ
-least_ready (leaf n k) ms e = cond (applies (leaf n k) ms (leaf_heard k e)) (Some n) None
-least_ready (one n k p) ms e = cond (applies (one n k p) ms (one_heard k e)) (Some n) (cond (shut (at ms n) k) None (least_ready p ms e))
-least_ready (two n k p q) ms e = cond (applies (two n k p q) ms (two_heard k e)) (Some n) (lower_of (least_ready p ms e) (least_ready q ms e))

@@ -5,9 +5,8 @@ ghost use Rattle.rules.specs.Model.{outputs_of, status_of};
 ghost use Rattle.record.specs.Answers.{answer};
 ghost use Rattle.record.specs.Phases.{is_open};
 ghost use Rattle.count.specs.View.{marks_in, count_in, tree_in};
-ghost use Rattle.count.specs.Calls.{new_state, stray, first_stray, begin_refusal, step_refusal, step_state, close_refusal, shown_out};
-ghost use Rattle.count.specs.Passes.{Settles};
-ghost use Rattle.count.specs.CountView.{kinds_of, signals_of, state_of, SameRoutine, Begins, Steps, Closes, Reacts};
+ghost use Rattle.count.specs.Calls.{new_state, stray, first_stray, begin_refusal, step_refusal, step_state, close_refusal, closing, close_state, shown_out};
+ghost use Rattle.count.specs.CountView.{kinds_of, signals_of, state_of, SameRoutine, Begins, Steps, Closes};
 
 use crate::answers::Closing;
 use crate::counts::Count;
@@ -26,7 +25,7 @@ impl<B: Board> Count<B> {
         ensures state { state_of B.present result ≡ new_state (kinds_read routine.table) }
     {
         board.wipe();
-        let mut rows = Rows { routine };
+        let mut rows = Rows::new(routine);
         rows.idle(0);
         rows.begin(0);
         Count {
@@ -166,11 +165,13 @@ impl<B: Board> Count<B> {
         }
     }
 
-    // Ends the instant, where nothing is ready any more.
-    pub fn close(&mut self) -> Result<Closing, Refusal>
-        ensures { Closes B.present self.old self.new result }
+    // Ends the instant.
+    pub(crate) fn end_instant(&mut self) -> Closing
+        requires { is_open self.old.phase ≡ true }
+        ensures answers { result ≡ closing (signals_of self.old) (kinds_of self.old) (state_of B.present self.old) }
+        ensures leaves { state_of B.present self.new ≡ close_state (kinds_of self.old) (state_of B.present self.old) }
+        ensures routine { SameRoutine self.old self.new }
     {
-        self.may_close()?;
         let closing = Closing {
             instant: self.closed + 1,
             outputs: self.outputs(),
@@ -183,30 +184,14 @@ impl<B: Board> Count<B> {
         self.closed += 1;
         self.steps = 0;
         self.phase = Phase::from(closing.status);
-        Ok(closing)
+        closing
     }
 
-    // Passes over the tree that step what is ready, until nothing is.
-    fn settle(&mut self)
-        requires { is_open self.old.phase ≡ true }
-        ensures settles { Settles (kinds_of self.old) (state_of B.present self.old) (state_of B.present self.new) }
-        ensures routine { SameRoutine self.old self.new }
+    // Ends the instant, where nothing is ready any more.
+    pub fn close(&mut self) -> Result<Closing, Refusal>
+        ensures { Closes B.present self.old self.new result }
     {
-        // Each pass but the last makes a step, so an instant's bound bounds the loop.
-        let most = 4 * self.rows.routine.count();
-        for _ in 0..most {
-            if !self.pass(0) {
-                return;
-            }
-        }
-    }
-
-    // A whole instant: begins with the word, steps what is ready until nothing is, and closes.
-    pub fn react(&mut self, word: u64) -> Result<Closing, Refusal>
-        ensures { Reacts B.present self.old self.new word result }
-    {
-        self.begin(word)?;
-        self.settle();
-        self.close()
+        self.may_close()?;
+        Ok(self.end_instant())
     }
 }

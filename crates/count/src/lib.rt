@@ -3,16 +3,19 @@
 pub mod answers;
 pub mod calls;
 pub mod counts;
+mod guides;
 mod machine;
-mod passes;
 pub mod questions;
+pub mod reactions;
 mod ready;
 pub mod records;
 pub mod rows;
+pub mod tracers;
 pub mod trips;
 mod words;
 
 pub use answers::Closing;
 pub use counts::Count;
 pub use record::Phase;
+pub use tracers::Tracer;
 pub use trips::{change_board, forward};

@@ -2,7 +2,7 @@ ghost use Rattle.std.specs.Prelude.{◌≡◌, false, length, if◌then◌else�
 ghost use Rattle.routine.specs.Kinds.{kinds, marks};
 ghost use Rattle.routine.specs.Search.{lowest};
 ghost use Rattle.routine.specs.Tree.{tree_at};
-ghost use Rattle.rules.specs.Rules.{ready, at};
+ghost use Rattle.rules.specs.Rules.{rule, ready, at};
 ghost use Rattle.count.specs.CountView.{kinds_of, signals_of, state_of};
 
 use crate::counts::Count;
@@ -68,11 +68,12 @@ impl<B: Board> Count<B> {
         self.is_ready_inside(0, k)
     }
 
-    // The lowest such statement.
+    // The lowest such statement, which is the lowest whose own rule applies.
     pub fn lowest_ready(&self) -> Option<usize>
-        ensures { result ≡ lowest (ready (tree_at (kinds_of self.now) 0) (state_of B.present self.now).marks (state_of B.present self.now).present) (length (kinds_of self.now)) }
+        ensures ready { result ≡ lowest (ready (tree_at (kinds_of self.now) 0) (state_of B.present self.now).marks (state_of B.present self.now).present) (length (kinds_of self.now)) }
+        ensures by_rule { result ≡ lowest (λ i. rule (tree_at (kinds_of self.now) i) (state_of B.present self.now).marks (state_of B.present self.now).present) (length (kinds_of self.now)) }
     {
-        self.least_ready(0)
+        (0..self.statements()).find(|i| self.rule_applies(*i))
     }
 
     // Is the signal present?

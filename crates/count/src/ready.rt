@@ -1,9 +1,13 @@
-ghost use Rattle.std.specs.Prelude.{◌≡◌, ◌<◌};
-ghost use Rattle.rules.specs.Rules.{ready};
-ghost use Rattle.count.specs.Machine.{heard, lower_of, least_ready};
+ghost use Rattle.std.specs.Prelude.{◌≡◌, ◌<◌, ◌&&◌, length, nat_lt};
+ghost use Rattle.routine.specs.Search.{lowest};
+ghost use Rattle.rules.specs.Rules.{ready, rule};
+ghost use Rattle.count.specs.Machine.{heard};
+ghost use Rattle.count.specs.Front.{QuietBelow};
+ghost use Rattle.count.specs.CountView.{kinds_of};
 ghost use Rattle.count.specs.View.{marks_in, count_in, tree_in};
 
 use crate::counts::Count;
+use crate::rows::Front;
 use routine::{Kind, Mark};
 use signals::Board;
 
@@ -26,27 +30,29 @@ impl<B: Board> Count<B> {
         }
     }
 
-    // The lowest ready statement of those inside statement i and itself, in one pass.
-    pub(crate) fn least_ready(&self, i: usize) -> Option<usize>
-        ensures { result ≡ least_ready (tree_in self.now.rows i) (marks_in self.now.rows) (B.present self.now.board) }
+    // Does the rule of statement i apply?
+    pub(crate) fn rule_applies(&self, i: usize) -> bool
+        ensures { result ≡ rule (tree_in self.now.rows i) (marks_in self.now.rows) (B.present self.now.board) }
     {
-        let kind = self.rows.kind(i);
-        if self.rows.applies(i, self.here(i)) {
-            return Some(i);
+        self.rows.applies(i, self.here(i))
+    }
+
+    // Does the guard lie below the front, and its rule apply?
+    fn guard_applies(&self, front: Front) -> bool
+        ensures { result ≡ (nat_lt front.guard front.from && rule (tree_in self.now.rows front.guard) (marks_in self.now.rows) (B.present self.now.board)) }
+    {
+        front.guard < front.from && self.rule_applies(front.guard)
+    }
+
+    // The lowest ready statement.
+    pub(crate) fn ready_from(&self, front: Front) -> Option<usize>
+        requires { QuietBelow (kinds_of self.now) (marks_in self.now.rows) (B.present self.now.board) front.from front.guard }
+        ensures { result ≡ lowest (ready (tree_in self.now.rows 0) (marks_in self.now.rows) (B.present self.now.board)) (length (kinds_of self.now)) }
+    {
+        if self.guard_applies(front) {
+            return Some(front.guard);
         }
-        match kind {
-            Kind::Nothing | Kind::Stop | Kind::Emit { .. } | Kind::Wait { .. } => None,
-            Kind::Local { .. } if self.rows.mark(i) == Mark::Waiting => None,
-            Kind::Loop { first } | Kind::Kill { first, .. } | Kind::Local { first, .. } => {
-                self.least_ready(usize::from(first))
-            }
-            Kind::Sequence { first, second }
-            | Kind::Parallel { first, second }
-            | Kind::When { first, second, .. } => lower(
-                self.least_ready(usize::from(first)),
-                self.least_ready(usize::from(second)),
-            ),
-        }
+        (front.from..self.statements()).find(|i| self.rule_applies(*i))
     }
 
     // Is statement k, which lies inside statement i or is it, ready?
@@ -55,7 +61,7 @@ impl<B: Board> Count<B> {
     {
         let kind = self.rows.kind(i);
         if k == i {
-            return self.rows.applies(i, self.here(i));
+            return self.rule_applies(i);
         }
         match kind {
             Kind::Nothing | Kind::Stop | Kind::Emit { .. } | Kind::Wait { .. } => false,
@@ -70,15 +76,5 @@ impl<B: Board> Count<B> {
                     || self.is_ready_inside(usize::from(second), k)
             }
         }
-    }
-}
-
-// The lower of two numbers, where there are any.
-fn lower(a: Option<usize>, b: Option<usize>) -> Option<usize>
-    ensures { result ≡ lower_of a b }
-{
-    match (a, b) {
-        (Some(a), Some(b)) => Some(a.min(b)),
-        _ => a.or(b),
     }
 }

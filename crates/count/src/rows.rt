@@ -1,7 +1,86 @@
-use routine::Routine;
+ghost use Rattle.std.specs.Prelude.{◌≡◌, max};
+ghost use Rattle.routine.specs.Kinds.{kinds, shape_at};
+ghost use Rattle.count.specs.Front.{entry, Guards, Waiters, front_after};
 
-// The statements of a routine with their marks: the plain inside of a count.
+use crate::guides::{guards_of, waiters_of};
+use routine::{Kind, Routine};
+
+// Where the search for the lowest ready statement goes on: below `from` no statement's own rule applies, but maybe that of
+// `guard`.
+#[derive(Clone, Copy, Debug)]
+pub(crate) struct Front {
+    pub(crate) from: usize,
+    pub(crate) guard: usize,
+}
+
+// The statements of a routine with their marks, and what guides the search for the lowest ready one: the plain inside of a
+// count.
 #[derive(Debug, Drop)]
 pub struct Rows {
     pub(crate) routine: Routine,
+    pub(crate) guards: [u8; 256],
+    pub(crate) waiters: [u8; 64],
+    ghost guarded: { Guards (kinds routine.table.statements.items) guards },
+    ghost awaited: { Waiters (kinds routine.table.statements.items) waiters },
+}
+
+impl Rows {
+    ghost use Rattle.count.specs.View.{kinds_in};
+
+    pub(crate) fn new(routine: Routine) -> Rows
+        ensures { result.routine ≡ routine }
+    {
+        let guards = guards_of(&routine);
+        let waiters = waiters_of(&routine);
+        Rows {
+            routine,
+            guards,
+            waiters,
+        }
+    }
+
+    // The statement above i that its step can make ready; 0 where there is none, which costs a look and no more.
+    fn guard(&self, i: usize) -> usize
+        ensures { result ≡ entry self.now.guards i }
+    {
+        self.guards.get(i).map_or(0, |guard| usize::from(*guard))
+    }
+
+    // No more than the lowest statement that awaits the signal.
+    fn waiter(&self, signal: u8) -> usize
+        ensures { result ≡ entry self.now.waiters signal }
+    {
+        self.waiters
+            .get(usize::from(signal))
+            .map_or(0, |waiter| usize::from(*waiter))
+    }
+
+    // From where on a rule can apply after the step of statement k that did not; before it, none below b applies but maybe
+    // that of k.
+    fn from_after(&self, b: usize, k: usize) -> usize
+        ensures { result ≡ front_after (shape_at (kinds_in self.now) k) self.now.waiters b k }
+    {
+        match self.kind(k) {
+            Kind::Loop { .. } | Kind::Local { .. } => k,
+            Kind::Sequence { second, .. } => b.min(usize::from(second)),
+            Kind::When { first, .. } => b.min(usize::from(first)),
+            Kind::Emit { signal } => b.min(self.waiter(signal)),
+            Kind::Nothing
+            | Kind::Stop
+            | Kind::Wait { .. }
+            | Kind::Parallel { .. }
+            | Kind::Kill { .. } => b,
+        }
+    }
+
+    // The front after the step of statement k, the lowest ready one, where it was `front` before.
+    pub(crate) fn front_after(&self, front: Front, k: usize) -> Front
+        ensures from { result.from ≡ front_after (shape_at (kinds_in self.now) k) self.now.waiters (max front.from k) k }
+        ensures guard { result.guard ≡ entry self.now.guards k }
+    {
+        Front {
+            from: self.from_after(front.from.max(k), k),
+            guard: self.guard(k),
+        }
+    }
 }

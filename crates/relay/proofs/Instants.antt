@@ -18,11 +18,12 @@ use Rattle.rules.specs.Theorems.{Checked}
 use Rattle.rules.proofs.Promises.{instant_ends, ready_below}
 use Rattle.rules.proofs.Stays.{marks_stay_legal}
 use Rattle.rules.proofs.Sums.{same_outcome}
+use Rattle.record.specs.declared.phases.Phase.{Phase}
+use Rattle.record.specs.declared.phases.Phase.TheVariants.{Resting, Open, Over}
 use Rattle.record.specs.Phases.{is_open}
 use Rattle.record.specs.Taking.{taking_refusal}
-use Rattle.count.specs.Calls.{one_more, phase_after, begin_refusal, begin_state, step_refusal, step_state, close_refusal, close_state, closing, react_closing, react_state}
+use Rattle.count.specs.Calls.{one_more, phase_after, begin_by, begin_refusal, begin_state, step_refusal, step_state, close_refusal, close_state, closing, react_closing, react_state}
 use Rattle.count.proofs.Sound.{never, same_phase, after_not_open}
-use Rattle.count.proofs.Reactions.{begun_resting}
 use Rattle.relay.specs.Asked.{Asked, begin, step, close, react, take_over}
 use Rattle.relay.specs.History.{Past, begins, steps, closes, reacts, takes_over, Standing, if_accepted, moves, past_of, after_call}
 use Rattle.relay.specs.Promises.{accepted, Ended, ended, left_open}
@@ -39,6 +40,12 @@ one_more_is n l = ap (λ b. cond b (n + 1) n) (lt-ltb n 65535 (omega arith))
 
 closed_not_open : (b : Bool) → is_open (phase_after b) ≡ false
 closed_not_open b = ap is_open (same_phase b) ∙ after_not_open b
+
+-- a begin that is accepted finds no open instant
+begun_resting : (p : Phase) (gs : List SignalKind) (n w : ℕ) → begin_by p gs n w ≡ None → is_open p ≡ false
+begun_resting Resting gs n w h = refl
+begun_resting Open gs n w h = absurd (let z : ◌≡◌ {A = ℕ} 0 1 = cc in omega arith)
+begun_resting Over gs n w h = refl
 
 module _ (gs : List SignalKind) (ks : List Kind) (C : Checked gs ks) (few : length ks ≤ 256) where
   -- the steps v, from the marks ms and the signals of an input word

@@ -1,4 +1,7 @@
-use Rattle.std.proofs.Common.{Bool, List, ap₂}
+use Rattle.std.proofs.Common.{Bool, List, ap, ap₂, ◌∙◌}
+use Rattle.routine.specs.declared.checked.Routine.{Routine}
+use Rattle.routine.specs.View.{kinds_of}
+use Rattle.rules.specs.Model.{first_marks}
 use Rattle.rules.specs.Rules.{Mark}
 use Rattle.record.specs.declared.phases.Phase.TheVariants.{Resting}
 use Rattle.record.specs.State.{State}
@@ -13,7 +16,8 @@ pub invariant_of-result-clause-legal : goal.invariant_of-result-clause-legal
 invariant_of-result-clause-legal g c = new_keeps _ _ _ c.idle.ensures c.begin.ensures
 
 pub returns-clause-state : goal.returns-clause-state
-returns-clause-state g c = ap₂ start (begun_anew _ _ _ c.idle.ensures c.begin.ensures) c.wipe.ensures
+returns-clause-state g c =
+    ap₂ start (begun_anew _ _ _ c.idle.ensures c.begin.ensures ∙ ap (λ (r : Routine). first_marks (kinds_of r.table)) c.new-rows.ensures) c.wipe.ensures
 
 pub invariant_of-result-clause-within : goal.invariant_of-result-clause-within
 invariant_of-result-clause-within g c = within_empty _ _ c.wipe.ensures

@@ -1,34 +1,58 @@
-use Rattle.std.proofs.Common.{Bool, true, refl, subst, arith}
-use Rattle.count.specs.View.{marks_in}
+use Rattle.std.proofs.Common.{length, refl, ap, ◌∙◌, arith}
+use Rattle.record.specs.State.{State}
+use Rattle.record.specs.Phases.{is_open}
+use Rattle.rules.specs.Rules.{ready}
+use Rattle.count.specs.View.{marks_in, tree_in}
 use Rattle.count.specs.CountView.{kinds_of, signals_of, state_of}
-use Rattle.count.proofs.Sound.{Keeps, checked, legal}
-use Rattle.count.proofs.Along.{same_then, reaches_root, reaches_still}
-use Rattle.count.proofs.Settling.{gone_none, gone_more, settles_here, settles_at_last}
+use Rattle.count.proofs.Sound.{checked, many}
+use Rattle.count.proofs.Settling.{turned_none, turned_more, some_ready, settled_here, settled_at_last}
+use Rattle.count.proofs.Front.{quiet_start, quiet_after, quiet_moved}
 use Rattle.count.proofs.counts.Count.settle.Goals as goal
 
-pub loop-init : goal.loop-init
-loop-init g c =
+pub loop-turn-init : goal.loop-turn-init
+loop-turn-init g c =
     let s = c.args.self.now in
-    record { reaches = reaches_root s c.requires; routine = record { kinds = refl; signals = refl }; gone = gone_none (kinds_of s) (state_of g.B.Board.present s) }
-
-pub loop-preserved : goal.loop-preserved
-loop-preserved g c =
-    let i = c.loop.invariant in
-    let f = c.pass.ensures in
+    let present = g.B.Board.present in
     record {
-      reaches = reaches_still i.reaches f;
-      routine = same_then i.routine f.same;
-      gone = gone_more (kinds_of c.args.self.now) (kinds_of c.loop.self) i.routine.kinds i.gone f.goes c.if-not-pass.false;
+      live = c.requires.live;
+      routine = record { kinds = refl; signals = refl };
+      turned = turned_none (kinds_of s) (state_of present s) (g.T.Tracer.trace c.args.tracer.now) c.requires.fresh;
+      quiet = quiet_start (kinds_of s) (marks_in s.rows) (present s.board) 0;
     }
 
-pub returns-then-not-pass-clause-settles : goal.returns-then-not-pass-clause-settles
-returns-then-not-pass-clause-settles g c =
-    let i = c.loop.invariant in
-    let f = c.pass.ensures in
-    settles_here (kinds_of c.args.self.now) (kinds_of c.loop.self) i.routine.kinds i.gone f.goes c.if-not-pass.true (f.calm c.if-not-pass.true)
+pub act-requires-clause-ready : goal.act-requires-clause-ready
+act-requires-clause-ready g c =
+    let s = c.loop-turn.self in
+    some_ready (ready (tree_in s.rows 0) (marks_in s.rows) (g.B.Board.present s.board)) (length (kinds_of s)) {k = c.in-Some.k} c.in-Some.ensures
 
-pub returns-clause-settles : goal.returns-clause-settles
-returns-clause-settles g c =
-    let s = c.args.self.now in
-    settles_at_last (signals_of s) (kinds_of s) (checked s.rows)
-    (legal s.rows true (subst (λ (b : Bool). Keeps b (kinds_of s) (marks_in s.rows)) c.requires s.legal)) (omega (arith, c.count-most.ensures.value)) c.loop.invariant.gone
+pub loop-turn-preserved : goal.loop-turn-preserved
+loop-turn-preserved g c =
+    let s = c.loop-turn.self in
+    let i = c.loop-turn.invariant in
+    let r = c.act.ensures.routine in
+    record {
+      live = ap (λ (u : State). is_open u.phase) c.act.ensures.leaves ∙ i.live;
+      routine = record { kinds = r.kinds ∙ i.routine.kinds; signals = r.signals ∙ i.routine.signals };
+      turned = turned_more (kinds_of c.args.self.now) i.turned (kinds_of s) c.in-Some.k (state_of g.B.Board.present c.act.new.self) _ i.routine.kinds
+          (omega arith) (omega arith) c.in-Some.ensures c.act.ensures.leaves c.step.ensures;
+      quiet = quiet_moved (kinds_of s) (kinds_of c.act.new.self) _ _ _ _ _ _ _ _ r.kinds (ap (λ (u : State). u.marks) c.act.ensures.leaves) (ap (λ (u : State). u.present) c.act.ensures.leaves)
+          c.front_after-front.ensures.from c.front_after-front.ensures.guard
+          (quiet_after (signals_of s) (kinds_of s) (checked s.rows) s.rows.guards s.rows.waiters s.rows.guarded s.rows.awaited (marks_in s.rows) (g.B.Board.present s.board) c.loop-turn.front.from c.loop-turn.front.guard c.in-Some.k
+          (many s.rows) i.quiet c.in-Some.ensures);
+    }
+
+pub returns-in-None-clause-leaves : goal.returns-in-None-clause-leaves
+returns-in-None-clause-leaves g c =
+    let i = c.loop-turn.invariant in
+    (settled_here (kinds_of c.args.self.now) i.turned (kinds_of c.loop-turn.self) i.routine.kinds c.in-None.ensures).leaves
+
+pub returns-in-None-clause-told : goal.returns-in-None-clause-told
+returns-in-None-clause-told g c =
+    let i = c.loop-turn.invariant in
+    (settled_here (kinds_of c.args.self.now) i.turned (kinds_of c.loop-turn.self) i.routine.kinds c.in-None.ensures).told
+
+pub returns-clause-leaves : goal.returns-clause-leaves
+returns-clause-leaves g c = (settled_at_last (kinds_of c.args.self.now) c.loop-turn.invariant.turned (omega (arith, c.count-most.ensures.value))).leaves
+
+pub returns-clause-told : goal.returns-clause-told
+returns-clause-told g c = (settled_at_last (kinds_of c.args.self.now) c.loop-turn.invariant.turned (omega (arith, c.count-most.ensures.value))).told
