@@ -1,12 +1,15 @@
 #![tactic(auto)]
 
 // Examples of tables: those that are routines, and each refusal with the ways into it; of counts at work, by react and
-// call by call, on both boards; and of records, from board to board, and each refusal of one with the ways into it.
+// call by call, on both boards, and which statements a react steps; and of records, from board to board, and each
+// refusal of one with the ways into it.
 #[cfg(test)]
 mod calls;
 #[cfg(test)]
 mod records;
 #[cfg(test)]
 mod tables;
+#[cfg(test)]
+mod traces;
 #[cfg(test)]
 mod worked;
