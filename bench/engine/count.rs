@@ -2,6 +2,7 @@
 
 use std::fmt;
 
+use crate::front::{Front, Guides};
 use crate::refusal::Refusal;
 use crate::rules::State;
 use crate::signals::Signals;
@@ -113,6 +114,17 @@ impl<'r> Count<'r> {
         self.begin(word)?;
         while let Some(statement) = self.lowest_ready() {
             self.make_step(statement);
+        }
+        Ok(self.make_close())
+    }
+
+    /// React, by a search that goes on from a front.
+    pub fn react_by_front(&mut self, guides: &Guides, word: u64) -> Result<Closing, Refusal> {
+        self.begin(word)?;
+        let mut front = Front::default();
+        while let Some(statement) = front.lowest_ready(&self.state, self.routine) {
+            self.make_step(statement);
+            front = front.advance(guides, self.routine, statement);
         }
         Ok(self.make_close())
     }

@@ -1,14 +1,16 @@
 //! A plain engine for counting routines, and what is needed to compare another one with it.
 //!
-//! Without arguments it does what the program `run` does. `generate FOLDER SEED N` writes N inputs for
-//! `run` into a folder, and `tally FOLDER N` says what happens in them. `test-orders SEED N` carries out
-//! the steps of N random routines in two orders each, and `write-orders FOLDER SEED N` writes the same as
-//! inputs for the program `handover`, with the answers. `calls` answers such an input, without a hand-over.
+//! Without arguments it does what the program `run` does; with `front` too, but it searches for the lowest ready
+//! statement from a front. `generate FOLDER SEED N` writes N inputs for `run` into a folder, and `tally FOLDER N` says
+//! what happens in them. `test-orders SEED N` carries out the steps of N random routines in two orders each, and
+//! `write-orders FOLDER SEED N` writes the same as inputs for the program `handover`, with the answers. `calls` answers
+//! such an input, without a hand-over.
 
 mod calls;
 mod count;
 mod damage;
 mod draft;
+mod front;
 mod generate;
 mod grow;
 mod orders;
@@ -28,7 +30,8 @@ fn main() -> Result<(), Box<dyn Error>> {
     let arguments: Vec<String> = std::env::args().skip(1).collect();
     let arguments: Vec<&str> = arguments.iter().map(String::as_str).collect();
     match arguments[..] {
-        [] => list()?,
+        [] => list(run::Search::Anew)?,
+        ["front"] => list(run::Search::Front)?,
         ["generate", folder, seed, n] => {
             generate::write(Path::new(folder), seed.parse()?, n.parse()?)?
         }
@@ -43,7 +46,7 @@ fn main() -> Result<(), Box<dyn Error>> {
     Ok(())
 }
 
-fn list() -> io::Result<()> {
+fn list(search: run::Search) -> io::Result<()> {
     let mut input = Vec::new();
     io::stdin()
         .lock()
@@ -51,7 +54,7 @@ fn list() -> io::Result<()> {
         .read_to_end(&mut input)?;
     io::stdout()
         .lock()
-        .write_all(run::listing(&input).as_bytes())
+        .write_all(run::listing(&input, search).as_bytes())
 }
 
 fn answer_calls() -> Result<(), Box<dyn Error>> {

@@ -88,7 +88,7 @@ impl State {
     }
 
     /// Whether one of the lines on steps applies, shut locals aside.
-    fn has_step(&self, routine: &Routine, number: usize) -> bool {
+    pub fn has_step(&self, routine: &Routine, number: usize) -> bool {
         let mark = self.marks[number];
         match routine.statement(number) {
             Statement::Nothing | Statement::Stop | Statement::Parallel { .. } => false,

@@ -1,20 +1,35 @@
 //! What the program `run` prints of its input.
 
 use crate::count::Count;
+use crate::front::Guides;
 use crate::table;
+
+/// How the lowest ready statement is searched for after a step.
+#[derive(Clone, Copy, Debug)]
+pub enum Search {
+    /// From statement 0 on.
+    Anew,
+    /// From where something can have changed.
+    Front,
+}
 
 pub const MOST_BYTES: u64 = 65_536;
 
-pub fn listing(input: &[u8]) -> String {
+pub fn listing(input: &[u8], search: Search) -> String {
     let (table, words) = split(input);
     let routine = match table::load(table) {
         Ok(routine) => routine,
         Err(refusal) => return format!("{refusal}\n"),
     };
+    let guides = Guides::new(&routine);
     let mut count = Count::new(&routine);
     let mut text = String::new();
     for word in words {
-        match count.react(word) {
+        let answer = match search {
+            Search::Anew => count.react(word),
+            Search::Front => count.react_by_front(&guides, word),
+        };
+        match answer {
             Ok(closing) => text.push_str(&format!("{closing}\n")),
             Err(refusal) => {
                 text.push_str(&format!("{refusal}\n"));
