@@ -84,6 +84,6 @@ module _ (ks : List Kind) (S : Rising ks) (O : Once ks) (few : length ks ≤ 256
         ];
       }
 
--- below the lowest that awaits a signal, of those below i
+-- for each signal no more than the lowest that awaits it, of those below i
 pub record Waited (ks : List Kind) (ws : List ℕ) (i : ℕ) : Type 0 where
   pub below : (j : ℕ) → j < i → (s : ℕ) → Awaits (shape_at ks j) s → entry ws s ≤ j

@@ -103,6 +103,7 @@ module _ (ks : List Kind) (S : Rising ks) (O : Once ks) (i : ℕ) (li : i < leng
         ∙ get_or-set_other ms i j underway idle (λ n. not_in_part (two_parts (when s) q q') x q' (inr refl) (subst (In (tree_at ks q')) n w)))
         ∙ h
 
+  -- the rule of statement k, inside statement i or it itself
   pub own_rests : (k : ℕ) → rule (tree_at ks i) ms e ≡ true → Under ks i k → k < front_after (shape_at ks i) ws b i
       → (¬ (k ≡ i) → rule (tree_at ks k) ms e ≡ false) → rule (tree_at ks k) (fire (tree_at ks i) ms) e ≡ false
   own_rests k r u l h =

@@ -1,7 +1,7 @@
 -- which rules can apply because of the signal that a step raises
 use Rattle.std.proofs.Common.{◌≡◌, ℕ, ◌≤◌, Bool, true, false, List, set, get_or, sym, ap, ◌∙◌, subst, refl, arith, get_or-set_other}
 use native.Mathlib.Decide.{ℕ_discrete}
-use Rattle.routine.specs.Kinds.{nothing, stop, emit, wait, loop, kill, local, sequence, parallel, when, Shape, no_part, one_part, two_parts}
+use Rattle.routine.specs.Kinds.{Leaf, nothing, stop, emit, wait, loop, kill, local, Two, sequence, parallel, when, Shape, no_part, one_part, two_parts}
 use Rattle.routine.specs.Tree.{node}
 use Rattle.rules.specs.Rules.{Mark, Signals, Tree, at, over, leaf_rule, two_rule, rule, Effect, quiet, raises, drops, effect_of, apply}
 use Rattle.rules.proofs.Locality.{set_default}
@@ -17,38 +17,26 @@ not_raised (drops t) e s h d =
       | no x ↦ get_or-set_other e t s false false x ∙ h
     ]
 
+-- where what it awaits stays absent, a rule that does not apply goes on so
+leaf_stays : (d e : Signals) (m : Mark) (k : Leaf) → ((s : ℕ) → Awaits (no_part k) s → get_or d s false ≡ false → get_or e s false ≡ false)
+    → leaf_rule d m k ≡ false → leaf_rule e m k ≡ false
+leaf_stays d e m nothing g h = grind arith
+leaf_stays d e m stop g h = grind arith
+leaf_stays d e m (emit s) g h = grind arith
+leaf_stays d e m (wait s) g h = let x = g s refl in grind arith
+
+two_stays : (d e : Signals) (m : Mark) (o : Bool) (k : Two) (a b : ℕ) → ((s : ℕ) → Awaits (two_parts k a b) s → get_or d s false ≡ false → get_or e s false ≡ false)
+    → two_rule d m k o ≡ false → two_rule e m k o ≡ false
+two_stays d e m o sequence a b g h = grind arith
+two_stays d e m o parallel a b g h = grind arith
+two_stays d e m o (when s) a b g h = let x = g s refl in grind arith
+
 -- a rule that does not apply does not after the effect either, unless it awaits what is raised
 pub rule_heard : (i : ℕ) (r : Shape) (sub : ℕ → Tree) (ms : List Mark) (e : Signals) (f : Effect) → ((s : ℕ) → Awaits r s → ¬ (f ≡ raises s))
     → rule (node i r sub) ms e ≡ false → rule (node i r sub) ms (apply f e) ≡ false
-rule_heard i (no_part nothing) sub ms e f d h = never (at ms i)
-  where
-    never : (m : Mark) → leaf_rule (apply f e) m nothing ≡ false
-    never m = grind arith
-rule_heard i (no_part stop) sub ms e f d h = never (at ms i)
-  where
-    never : (m : Mark) → leaf_rule (apply f e) m stop ≡ false
-    never m = grind arith
-rule_heard i (no_part (emit s)) sub ms e f d h = same (at ms i) h
-  where
-    same : (m : Mark) → leaf_rule e m (emit s) ≡ false → leaf_rule (apply f e) m (emit s) ≡ false
-    same m h = grind arith
-rule_heard i (no_part (wait s)) sub ms e f d h = same (at ms i) h (λ g. not_raised f e s g (d s refl))
-  where
-    same : (m : Mark) → leaf_rule e m (wait s) ≡ false → (get_or e s false ≡ false → get_or (apply f e) s false ≡ false) → leaf_rule (apply f e) m (wait s) ≡ false
-    same m h g = grind arith
+rule_heard i (no_part k) sub ms e f d h = leaf_stays e (apply f e) (at ms i) k (λ s x g. not_raised f e s g (d s x)) h
 rule_heard i (one_part k a) sub ms e f d h = h
-rule_heard i (two_parts sequence a b) sub ms e f d h = same (at ms i) (over (sub a) ms) h
-  where
-    same : (m : Mark) (o : Bool) → two_rule e m sequence o ≡ false → two_rule (apply f e) m sequence o ≡ false
-    same m o h = grind arith
-rule_heard i (two_parts parallel a b) sub ms e f d h = same (at ms i) (over (sub a) ms)
-  where
-    same : (m : Mark) (o : Bool) → two_rule (apply f e) m parallel o ≡ false
-    same m o = grind arith
-rule_heard i (two_parts (when s) a b) sub ms e f d h = same (at ms i) (over (sub a) ms) h (λ g. not_raised f e s g (d s refl))
-  where
-    same : (m : Mark) (o : Bool) → two_rule e m (when s) o ≡ false → (get_or e s false ≡ false → get_or (apply f e) s false ≡ false) → two_rule (apply f e) m (when s) o ≡ false
-    same m o h g = grind arith
+rule_heard i (two_parts k a b) sub ms e f d h = two_stays e (apply f e) (at ms i) (over (sub a) ms) k a b (λ s x g. not_raised f e s g (d s x)) h
 
 raises_same : (s t : ℕ) → raises s ≡ raises t → s ≡ t
 raises_same s t h = cc
