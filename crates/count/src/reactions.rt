@@ -26,14 +26,12 @@ impl<B: Board> Count<B> {
         let most = 4 * self.rows.routine.count();
         let mut front = Front { from: 0, guard: 0 };
         for turn in 0..most {
-            match self.ready_from(front) {
-                Some(k) => {
-                    front = self.rows.front_after(front, k);
-                    self.act(k);
-                    tracer.step(k);
-                }
-                None => return turn,
-            }
+            let Some(k) = self.ready_from(front) else {
+                return turn;
+            };
+            front = self.rows.front_after(front, k);
+            self.act(k);
+            tracer.step(k);
         }
         most
     }

@@ -2,6 +2,7 @@ ghost use Rattle.std.specs.Prelude.{vec_items};
 ghost use Rattle.count.specs.Traces.{Trace};
 
 use crate::tables::{INPUT, LOCAL, OUTPUT, routine};
+use crate::worked::{NEW_LIVES, RELAYED};
 use count::{Count, Tracer};
 use routine::{Refusal, Routine};
 use signals::{BitBoard, Board, StampBoard};
@@ -42,7 +43,7 @@ fn steps<B: Board + Drop>(
     Ok(())
 }
 
-// loop(local L(sequence(when L(emit O, nothing), sequence(stop, emit L)))): what is lower becomes ready by what is higher
+// What is lower becomes ready by what is higher: a loop and its local, when what is inside is over.
 fn upwards<B: Board + Drop>(
     rt: &(impl Abort + AllocGlobal),
     routine: Routine,
@@ -54,18 +55,6 @@ fn upwards<B: Board + Drop>(
     steps(rt, &mut count, &[1, 6, 8, 1, 0, 0, 1])?;
     steps(rt, &mut count, &[1, 2])
 }
-
-const NEW_LIVES: [[u8; 4]; 9] = [
-    [6, 0, 1, 0],
-    [9, 0, 2, 0],
-    [4, 0, 3, 6],
-    [7, 0, 4, 5],
-    [2, 1, 0, 0],
-    [0, 0, 0, 0],
-    [4, 0, 7, 8],
-    [1, 0, 0, 0],
-    [2, 0, 0, 0],
-];
 
 #[test]
 fn lowest_first(rt: HostRuntime) -> Result<(), Fail> {
@@ -81,22 +70,11 @@ fn lowest_first(rt: HostRuntime) -> Result<(), Fail> {
     )
 }
 
-// parallel(parallel(when A(emit B, nothing), emit A), sequence(wait B, emit C)): an emit makes ready what is lower
+// An emit makes ready a when that is lower, and what that begins a wait that is higher.
 #[test]
 fn wakes_the_lower(rt: HostRuntime) -> Result<(), Fail> {
-    let records = [
-        [5, 0, 1, 6],
-        [5, 0, 2, 5],
-        [7, 0, 3, 4],
-        [2, 1, 0, 0],
-        [0, 0, 0, 0],
-        [2, 0, 0, 0],
-        [4, 0, 7, 8],
-        [3, 1, 0, 0],
-        [2, 2, 0, 0],
-    ];
     let mut count = Count::new(
-        routine(rt.alloc(), &[OUTPUT, OUTPUT, OUTPUT], &records)?,
+        routine(rt.alloc(), &[OUTPUT, OUTPUT, OUTPUT], &RELAYED)?,
         BitBoard::new(),
     );
     steps(&rt, &mut count, &[5, 2, 3, 7, 6, 8])

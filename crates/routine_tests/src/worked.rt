@@ -70,23 +70,25 @@ fn nothing_and_stop(rt: HostRuntime) -> Result<(), Fail> {
     )
 }
 
-// parallel(parallel(when A(emit B, nothing), emit A), sequence(wait B, emit C))
+// parallel(parallel(when A(emit B, nothing), emit A), sequence(wait B, emit C)), with A, B, C = 0, 1, 2
+pub(crate) const RELAYED: [[u8; 4]; 9] = [
+    [5, 0, 1, 6],
+    [5, 0, 2, 5],
+    [7, 0, 3, 4],
+    [2, 1, 0, 0],
+    [0, 0, 0, 0],
+    [2, 0, 0, 0],
+    [4, 0, 7, 8],
+    [3, 1, 0, 0],
+    [2, 2, 0, 0],
+];
+
 #[test]
 fn relayed(rt: HostRuntime) -> Result<(), Fail> {
     on_both_boards(
         &rt,
         &[OUTPUT, OUTPUT, OUTPUT],
-        &[
-            [5, 0, 1, 6],
-            [5, 0, 2, 5],
-            [7, 0, 3, 4],
-            [2, 1, 0, 0],
-            [0, 0, 0, 0],
-            [2, 0, 0, 0],
-            [4, 0, 7, 8],
-            [3, 1, 0, 0],
-            [2, 2, 0, 0],
-        ],
+        &RELAYED,
         &[Instant(0, 7, T, 6)],
     )
 }
@@ -134,23 +136,26 @@ fn over_already(rt: HostRuntime) -> Result<(), Fail> {
     )
 }
 
-// loop(local L(sequence(when L(emit O, nothing), sequence(stop, emit L)))): no round sees an older round's L
+// loop(local L(sequence(when L(emit O, nothing), sequence(stop, emit L)))), with L, O = 0, 1
+pub(crate) const NEW_LIVES: [[u8; 4]; 9] = [
+    [6, 0, 1, 0],
+    [9, 0, 2, 0],
+    [4, 0, 3, 6],
+    [7, 0, 4, 5],
+    [2, 1, 0, 0],
+    [0, 0, 0, 0],
+    [4, 0, 7, 8],
+    [1, 0, 0, 0],
+    [2, 0, 0, 0],
+];
+
+// No round sees an older round's L.
 #[test]
 fn new_life(rt: HostRuntime) -> Result<(), Fail> {
     on_both_boards(
         &rt,
         &[LOCAL, OUTPUT],
-        &[
-            [6, 0, 1, 0],
-            [9, 0, 2, 0],
-            [4, 0, 3, 6],
-            [7, 0, 4, 5],
-            [2, 1, 0, 0],
-            [0, 0, 0, 0],
-            [4, 0, 7, 8],
-            [1, 0, 0, 0],
-            [2, 0, 0, 0],
-        ],
+        &NEW_LIVES,
         &[
             Instant(0, 0, S, 2),
             Instant(0, 0, S, 2),

@@ -41,15 +41,15 @@ loop-turn-preserved g c =
           (many s.rows) i.quiet c.in-Some.ensures);
     }
 
-pub returns-in-None-clause-leaves : goal.returns-in-None-clause-leaves
-returns-in-None-clause-leaves g c =
+pub returns-in_default-clause-leaves : goal.returns-in_default-clause-leaves
+returns-in_default-clause-leaves g c =
     let i = c.loop-turn.invariant in
-    (settled_here (kinds_of c.args.self.now) i.turned (kinds_of c.loop-turn.self) i.routine.kinds c.in-None.ensures).leaves
+    (settled_here (kinds_of c.args.self.now) i.turned (kinds_of c.loop-turn.self) i.routine.kinds c.in_default.ensures).leaves
 
-pub returns-in-None-clause-told : goal.returns-in-None-clause-told
-returns-in-None-clause-told g c =
+pub returns-in_default-clause-told : goal.returns-in_default-clause-told
+returns-in_default-clause-told g c =
     let i = c.loop-turn.invariant in
-    (settled_here (kinds_of c.args.self.now) i.turned (kinds_of c.loop-turn.self) i.routine.kinds c.in-None.ensures).told
+    (settled_here (kinds_of c.args.self.now) i.turned (kinds_of c.loop-turn.self) i.routine.kinds c.in_default.ensures).told
 
 pub returns-clause-leaves : goal.returns-clause-leaves
 returns-clause-leaves g c = (settled_at_last (kinds_of c.args.self.now) c.loop-turn.invariant.turned (omega (arith, c.count-most.ensures.value))).leaves
