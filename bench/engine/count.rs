@@ -123,8 +123,8 @@ impl<'r> Count<'r> {
         self.begin(word)?;
         let mut front = Front::default();
         while let Some(statement) = front.lowest_ready(&self.state, self.routine) {
+            front = front.advance(guides, &self.state, self.routine, statement);
             self.make_step(statement);
-            front = front.advance(guides, self.routine, statement);
         }
         Ok(self.make_close())
     }

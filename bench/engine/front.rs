@@ -64,16 +64,20 @@ impl Front {
             })
     }
 
-    /// The front after the step of the lowest ready statement. What can be ready that was not: what the statement
-    /// began; itself, if it is a loop or a local; a wait or a when of the signal that it raised; and its guard.
-    pub fn advance(self, guides: &Guides, routine: &Routine, number: usize) -> Front {
+    /// The front after the step of the lowest ready statement, which is still to be made. What can be ready then that
+    /// was not: what the statement begins; itself, if it is a loop or a local; a wait or a when of the signal that it
+    /// raises, if that is absent so far; and its guard.
+    pub fn advance(self, guides: &Guides, state: &State, routine: &Routine, number: usize) -> Front {
         let from = self.from.max(number);
         let from = match routine.statement(number) {
             Statement::Loop { .. } | Statement::Local { .. } => number,
             Statement::Sequence { second, .. } => from.min(second),
             Statement::When { first, .. } => from.min(first),
-            Statement::Emit { signal } => from.min(guides.waiters[signal].unwrap_or(from)),
-            Statement::Nothing
+            Statement::Emit { signal } if !state.present.has(signal) => {
+                from.min(guides.waiters[signal].unwrap_or(from))
+            }
+            Statement::Emit { .. }
+            | Statement::Nothing
             | Statement::Stop
             | Statement::Wait { .. }
             | Statement::Parallel { .. }

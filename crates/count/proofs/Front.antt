@@ -19,22 +19,24 @@ use Rattle.rules.proofs.Table.{in_under, under_in}
 use Rattle.rules.proofs.Tests.{Table}
 use Rattle.rules.proofs.Checked.{table}
 use Rattle.rules.proofs.Lowest.{lowest_first, by_rule}
+use Rattle.count.specs.Machine.{heard}
 use Rattle.count.specs.Front.{entry, Guards, Waiters, front_after, QuietBelow}
 use Rattle.count.proofs.Aside.{rule_stays}
 use Rattle.count.proofs.Within.{own_rests}
-use Rattle.count.proofs.Woken.{rule_heard, front_waits}
+use Rattle.count.proofs.Woken.{rule_heard, heard_raised, front_waits}
 
-front_low : (r : Shape) (ws : List ℕ) (b k : ℕ) → k ≤ b → front_after r ws b k ≤ b
-front_low (no_part nothing) ws b k l = omega arith
-front_low (no_part stop) ws b k l = omega arith
-front_low (no_part (emit s)) ws b k l = omega arith
-front_low (no_part (wait s)) ws b k l = omega arith
-front_low (one_part loop a) ws b k l = l
-front_low (one_part (kill s) a) ws b k l = omega arith
-front_low (one_part (local s) a) ws b k l = l
-front_low (two_parts sequence a c) ws b k l = omega arith
-front_low (two_parts parallel a c) ws b k l = omega arith
-front_low (two_parts (when s) a c) ws b k l = omega arith
+front_low : (r : Shape) (ws : List ℕ) (was : Bool) (b k : ℕ) → k ≤ b → front_after r ws was b k ≤ b
+front_low (no_part nothing) ws was b k l = omega arith
+front_low (no_part stop) ws was b k l = omega arith
+front_low (no_part (emit s)) ws true b k l = omega arith
+front_low (no_part (emit s)) ws false b k l = omega arith
+front_low (no_part (wait s)) ws was b k l = omega arith
+front_low (one_part loop a) ws was b k l = l
+front_low (one_part (kill s) a) ws was b k l = omega arith
+front_low (one_part (local s) a) ws was b k l = l
+front_low (two_parts sequence a c) ws was b k l = omega arith
+front_low (two_parts parallel a c) ws was b k l = omega arith
+front_low (two_parts (when s) a c) ws was b k l = omega arith
 
 module _ (gs : List SignalKind) (ks : List Kind) (C : Checked gs ks) where
   T : Table ks gs
@@ -47,10 +49,10 @@ module _ (gs : List SignalKind) (ks : List Kind) (C : Checked gs ks) where
   O = T.once
 
   -- after the step of the lowest ready statement no rule applies below the new front, but maybe that of its guard
-  pub quiet_after : (vs ws : List ℕ) → Guards ks vs → Waiters ks ws → (ms : List Mark) (e : Signals) (f g i : ℕ) → length ms ≡ length ks → QuietBelow ks ms e f g
-      → Some i ≡ lowest (ready (tree_at ks 0) ms e) (length ks)
-      → QuietBelow ks (fire (tree_at ks i) ms) (apply (effect_of (tree_at ks i)) e) (front_after (shape_at ks i) ws (max f i) i) (entry vs i)
-  quiet_after vs ws G W ms e f g i lm c o =
+  pub quiet_after : (vs ws : List ℕ) → Guards ks vs → Waiters ks ws → (ms : List Mark) (e : Signals) (was : Bool) (f g i : ℕ) → length ms ≡ length ks → QuietBelow ks ms e f g
+      → was ≡ heard (tree_at ks i) e → Some i ≡ lowest (ready (tree_at ks 0) ms e) (length ks)
+      → QuietBelow ks (fire (tree_at ks i) ms) (apply (effect_of (tree_at ks i)) e) (front_after (shape_at ks i) ws was (max f i) i) (entry vs i)
+  quiet_after vs ws G W ms e was f g i lm c here o =
       let P = λ (j : ℕ). rule (tree_at ks j) ms e in
       let n = length ks in
       let w : lowest P n ≡ Some i = by_rule gs ks C ms e ∙ sym o in
@@ -60,11 +62,11 @@ module _ (gs : List SignalKind) (ks : List Kind) (C : Checked gs ks) where
       go li r lower
     where
       go : (li : i < length ks) → rule (tree_at ks i) ms e ≡ true → ((j : ℕ) → j < i → rule (tree_at ks j) ms e ≡ false)
-          → QuietBelow ks (fire (tree_at ks i) ms) (apply (effect_of (tree_at ks i)) e) (front_after (shape_at ks i) ws (max f i) i) (entry vs i)
+          → QuietBelow ks (fire (tree_at ks i) ms) (apply (effect_of (tree_at ks i)) e) (front_after (shape_at ks i) ws was (max f i) i) (entry vs i)
       go li r lower = record { within = let a = low in let b = c.within in omega arith; quiet = rests }
         where
-          low : front_after (shape_at ks i) ws (max f i) i ≤ max f i
-          low = front_low (shape_at ks i) ws (max f i) i (omega arith)
+          low : front_after (shape_at ks i) ws was (max f i) i ≤ max f i
+          low = front_low (shape_at ks i) ws was (max f i) i (omega arith)
 
           before : (j : ℕ) → j < max f i → ¬ (j ≡ i) → rule (tree_at ks j) ms e ≡ false
           before j l d =
@@ -76,18 +78,18 @@ module _ (gs : List SignalKind) (ks : List Kind) (C : Checked gs ks) where
                 ]
               ]
 
-          marks_rest : (j : ℕ) → j < front_after (shape_at ks i) ws (max f i) i → j < length ks → ¬ (j ≡ entry vs i) → rule (tree_at ks j) (fire (tree_at ks i) ms) e ≡ false
+          marks_rest : (j : ℕ) → j < front_after (shape_at ks i) ws was (max f i) i → j < length ks → ¬ (j ≡ entry vs i) → rule (tree_at ks j) (fire (tree_at ks i) ms) e ≡ false
           marks_rest j l lj d =
               let m = low in
               elim (In-dec (tree_at ks i) j) [
-                | inl v ↦ own_rests ks S O i li ms lm e ws (max f i) j r (in_under ks S i li j v) l (before j (omega arith))
+                | inl v ↦ own_rests ks S O i li ms lm e ws was (max f i) j r (in_under ks S i li j v) l (before j (omega arith))
                 | inr v ↦ elim (rule_stays ks S O i li ms vs G e j lj (λ u. v (under_in ks S li u))) [
                   | inl x ↦ x ∙ before j (omega arith) (λ y. v (subst (In (tree_at ks i)) (sym y) (under_in ks S li self)))
                   | inr y ↦ absurd (d (sym y))
                 ]
               ]
 
-          rests : (j : ℕ) → j < front_after (shape_at ks i) ws (max f i) i → ¬ (j ≡ entry vs i)
+          rests : (j : ℕ) → j < front_after (shape_at ks i) ws was (max f i) i → ¬ (j ≡ entry vs i)
               → rule (tree_at ks j) (fire (tree_at ks i) ms) (apply (effect_of (tree_at ks i)) e) ≡ false
           rests j l d =
               let m = low in
@@ -96,8 +98,11 @@ module _ (gs : List SignalKind) (ks : List Kind) (C : Checked gs ks) where
               let x = unroll ks S j lj in
               subst (λ t. rule t (fire (tree_at ks i) ms) (apply (effect_of (tree_at ks i)) e) ≡ false) (sym x)
               (rule_heard j (shape_at ks j) (tree_at ks) (fire (tree_at ks i) ms) e (effect_of (tree_at ks i))
-              (λ s a z.
+              (λ s a absent z.
+              let absent_before : was ≡ false = here ∙ heard_raised (tree_at ks i) e s z ∙ absent in
               let y = front_waits i (shape_at ks i) (tree_at ks) ws (max f i) i s (ap effect_of (sym (unroll ks S i li)) ∙ z) in
+              let y' : front_after (shape_at ks i) ws was (max f i) i ≤ entry ws s
+              = subst (λ (b : Bool). front_after (shape_at ks i) ws b (max f i) i ≤ entry ws s) (sym absent_before) y in
               let q = W j lj s a in
               omega arith)
               (subst (λ t. rule t (fire (tree_at ks i) ms) e ≡ false) x (marks_rest j l lj d)))

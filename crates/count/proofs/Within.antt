@@ -42,7 +42,7 @@ split ks (part {j = j} {a = a} u h) =
       | inr x ↦ inr (x.0, x.1, part x.2 h)
     ]
 
-module _ (ks : List Kind) (S : Rising ks) (O : Once ks) (i : ℕ) (li : i < length ks) (ms : List Mark) (lm : length ms ≡ length ks) (e : Signals) (ws : List ℕ) (b : ℕ) where
+module _ (ks : List Kind) (S : Rising ks) (O : Once ks) (i : ℕ) (li : i < length ks) (ms : List Mark) (lm : length ms ≡ length ks) (e : Signals) (ws : List ℕ) (was : Bool) (b : ℕ) where
   not_in_part : (r : Shape) → shape_at ks i ≡ r → (p : ℕ) → Part r p → ¬ (In (tree_at ks p) i)
   not_in_part r x p h u = let y = S i li p (rw x h) in let w = under_below ks S y.1 (in_under ks S p y.1 i u) in omega arith
 
@@ -53,7 +53,7 @@ module _ (ks : List Kind) (S : Rising ks) (O : Once ks) (i : ℕ) (li : i < leng
       disjoint ks S O i li k p q x j (in_under ks S p lp j u) (in_under ks S q lq j v)
 
   -- the rule of the statement itself
-  self_rests : (r : Shape) → shape_at ks i ≡ r → rule (node i r (tree_at ks)) ms e ≡ true → i < front_after r ws b i
+  self_rests : (r : Shape) → shape_at ks i ≡ r → rule (node i r (tree_at ks)) ms e ≡ true → i < front_after r ws was b i
       → rule (node i r (tree_at ks)) (fire (node i r (tree_at ks)) ms) e ≡ false
   self_rests (no_part q) x r l = done_rests e (at (set ms i done) i) q (get_or-set_same ms i done idle (omega arith))
   self_rests (one_part loop p) x r l = absurd (omega arith)
@@ -76,7 +76,7 @@ module _ (ks : List Kind) (S : Rising ks) (O : Once ks) (i : ℕ) (li : i < leng
     in_part p l u j v = under_in ks S l (under_trans ks S u (in_under ks S k (under_below ks S l u).1 j v))
 
     -- and the rule of statement k, inside its part p
-    part_rests : (r : Shape) → shape_at ks i ≡ r → rule (node i r (tree_at ks)) ms e ≡ true → k < front_after r ws b i → (p : ℕ) → (i < p) × (p < length ks) → Part r p
+    part_rests : (r : Shape) → shape_at ks i ≡ r → rule (node i r (tree_at ks)) ms e ≡ true → k < front_after r ws was b i → (p : ℕ) → (i < p) × (p < length ks) → Part r p
         → Under ks p k → rule (tree_at ks k) (fire (node i r (tree_at ks)) ms) e ≡ false
     part_rests (no_part t) x r l p y g u = absurd g
     part_rests (one_part loop q) x r l p y g u = let w = under_below ks S y.1 u in absurd (omega arith)
@@ -104,7 +104,7 @@ module _ (ks : List Kind) (S : Rising ks) (O : Once ks) (i : ℕ) (li : i < leng
         ∙ h
 
   -- the rule of statement k, inside statement i or it itself
-  pub own_rests : (k : ℕ) → rule (tree_at ks i) ms e ≡ true → Under ks i k → k < front_after (shape_at ks i) ws b i
+  pub own_rests : (k : ℕ) → rule (tree_at ks i) ms e ≡ true → Under ks i k → k < front_after (shape_at ks i) ws was b i
       → (¬ (k ≡ i) → rule (tree_at ks k) ms e ≡ false) → rule (tree_at ks k) (fire (tree_at ks i) ms) e ≡ false
   own_rests k r u l h =
       let x = unroll ks S i li in
@@ -112,7 +112,7 @@ module _ (ks : List Kind) (S : Rising ks) (O : Once ks) (i : ℕ) (li : i < leng
       elim (ℕ_discrete k i) [
         | yes z ↦
             subst (λ (j : ℕ). rule (tree_at ks j) (fire (tree_at ks i) ms) e ≡ false) (sym z)
-            (subst (λ t. rule t (fire t ms) e ≡ false) (sym x) (self_rests (shape_at ks i) refl y (subst (λ (j : ℕ). j < front_after (shape_at ks i) ws b i) z l)))
+            (subst (λ t. rule t (fire t ms) e ≡ false) (sym x) (self_rests (shape_at ks i) refl y (subst (λ (j : ℕ). j < front_after (shape_at ks i) ws was b i) z l)))
         | no d ↦ elim (split ks u) [
           | inl z ↦ absurd (d z)
           | inr z ↦ subst (λ t. rule (tree_at ks k) (fire t ms) e ≡ false) (sym x) (part_rests k (h d) (shape_at ks i) refl y l z.0 (S i li z.0 z.1) z.1 z.2)

@@ -3,8 +3,9 @@ use Rattle.std.proofs.Common.{◌≡◌, ℕ, ◌≤◌, Bool, true, false, List
 use native.Mathlib.Decide.{ℕ_discrete}
 use Rattle.routine.specs.Kinds.{Leaf, nothing, stop, emit, wait, loop, kill, local, Two, sequence, parallel, when, Shape, no_part, one_part, two_parts}
 use Rattle.routine.specs.Tree.{node}
-use Rattle.rules.specs.Rules.{Mark, Signals, Tree, at, over, leaf_rule, two_rule, rule, Effect, quiet, raises, drops, effect_of, apply}
+use Rattle.rules.specs.Rules.{Mark, Signals, Tree, leaf, one, two, at, over, leaf_rule, two_rule, rule, Effect, quiet, raises, drops, effect_of, apply}
 use Rattle.rules.proofs.Locality.{set_default}
+use Rattle.count.specs.Machine.{heard}
 use Rattle.count.specs.Front.{entry, Awaits, front_after}
 
 -- what is not raised stays absent
@@ -31,18 +32,29 @@ two_stays d e m o sequence a b g h = grind arith
 two_stays d e m o parallel a b g h = grind arith
 two_stays d e m o (when s) a b g h = let x = g s refl in grind arith
 
--- a rule that does not apply does not after the effect either, unless it awaits what is raised
-pub rule_heard : (i : ℕ) (r : Shape) (sub : ℕ → Tree) (ms : List Mark) (e : Signals) (f : Effect) → ((s : ℕ) → Awaits r s → ¬ (f ≡ raises s))
+-- a rule that does not apply does not after the effect either, unless it awaits what is raised and was absent
+pub rule_heard : (i : ℕ) (r : Shape) (sub : ℕ → Tree) (ms : List Mark) (e : Signals) (f : Effect) → ((s : ℕ) → Awaits r s → get_or e s false ≡ false → ¬ (f ≡ raises s))
     → rule (node i r sub) ms e ≡ false → rule (node i r sub) ms (apply f e) ≡ false
-rule_heard i (no_part k) sub ms e f d h = leaf_stays e (apply f e) (at ms i) k (λ s x g. not_raised f e s g (d s x)) h
+rule_heard i (no_part k) sub ms e f d h = leaf_stays e (apply f e) (at ms i) k (λ s x g. not_raised f e s g (d s x g)) h
 rule_heard i (one_part k a) sub ms e f d h = h
-rule_heard i (two_parts k a b) sub ms e f d h = two_stays e (apply f e) (at ms i) (over (sub a) ms) k a b (λ s x g. not_raised f e s g (d s x)) h
+rule_heard i (two_parts k a b) sub ms e f d h = two_stays e (apply f e) (at ms i) (over (sub a) ms) k a b (λ s x g. not_raised f e s g (d s x g)) h
 
 raises_same : (s t : ℕ) → raises s ≡ raises t → s ≡ t
 raises_same s t h = cc
 
--- the front is not above what awaits the signal that is raised
-pub front_waits : (i : ℕ) (r : Shape) (sub : ℕ → Tree) (ws : List ℕ) (b k s : ℕ) → effect_of (node i r sub) ≡ raises s → front_after r ws b k ≤ entry ws s
+-- what is raised is the statement's own signal
+pub heard_raised : (t : Tree) (e : Signals) (s : ℕ) → effect_of t ≡ raises s → heard t e ≡ get_or e s false
+heard_raised (leaf n nothing) e s h = absurd (grind arith)
+heard_raised (leaf n stop) e s h = absurd (grind arith)
+heard_raised (leaf n (emit t)) e s h = ap (λ (i : ℕ). get_or e i false) (raises_same t s h)
+heard_raised (leaf n (wait t)) e s h = absurd (grind arith)
+heard_raised (one n loop p) e s h = absurd (grind arith)
+heard_raised (one n (kill t) p) e s h = absurd (grind arith)
+heard_raised (one n (local t) p) e s h = absurd (grind arith)
+heard_raised (two n k p q) e s h = absurd (grind arith)
+
+-- the front is not above what awaits the signal that is raised and was absent
+pub front_waits : (i : ℕ) (r : Shape) (sub : ℕ → Tree) (ws : List ℕ) (b k s : ℕ) → effect_of (node i r sub) ≡ raises s → front_after r ws false b k ≤ entry ws s
 front_waits i (no_part nothing) sub ws b k s h = absurd (grind arith)
 front_waits i (no_part stop) sub ws b k s h = absurd (grind arith)
 front_waits i (no_part (emit t)) sub ws b k s h = let x = ap (entry ws) (raises_same t s h) in omega arith

@@ -1,6 +1,6 @@
 -- where the search for the lowest ready statement may go on after a step: from its front, a number below which no statement's
 -- own rule applies, but maybe that of one, the guard of the statement that was stepped last
-use Rattle.std.specs.Prelude.{◌≡◌, ℕ, ◌<◌, ◌≤◌, min, false, ◌⊎◌, List, length, slice_index_or, slice_set}
+use Rattle.std.specs.Prelude.{◌≡◌, ℕ, ◌<◌, ◌≤◌, min, Bool, false, cond, ◌⊎◌, List, length, slice_index_or, slice_set}
 use Rattle.routine.specs.declared.kinds.Kind.{Kind}
 use Rattle.routine.specs.Kinds.{nothing, stop, emit, wait, loop, kill, local, sequence, parallel, when, Shape, no_part, one_part, two_parts, shape_at}
 use Rattle.routine.specs.Tree.{tree_at}
@@ -48,18 +48,18 @@ abbrev pub Waiters : List Kind → List ℕ → Type 0
 Waiters ks ws = (i : ℕ) → i < length ks → (s : ℕ) → Awaits (shape_at ks i) s → entry ws s ≤ i
 
 -- after the step of statement k: b, the part that k began, k itself for a loop or a local, or the lowest that awaits what k
--- raised
-abbrev pub front_after : Shape → List ℕ → ℕ → ℕ → ℕ
-front_after (no_part nothing) ws b k = b
-front_after (no_part stop) ws b k = b
-front_after (no_part (emit s)) ws b k = min b (entry ws s)
-front_after (no_part (wait s)) ws b k = b
-front_after (one_part loop a) ws b k = k
-front_after (one_part (kill s) a) ws b k = b
-front_after (one_part (local s) a) ws b k = k
-front_after (two_parts sequence a c) ws b k = min b c
-front_after (two_parts parallel a c) ws b k = b
-front_after (two_parts (when s) a c) ws b k = min b a
+-- raised; h: whether the signal of k was present before, so that raising it wakes nothing
+abbrev pub front_after : Shape → List ℕ → Bool → ℕ → ℕ → ℕ
+front_after (no_part nothing) ws h b k = b
+front_after (no_part stop) ws h b k = b
+front_after (no_part (emit s)) ws h b k = cond h b (min b (entry ws s))
+front_after (no_part (wait s)) ws h b k = b
+front_after (one_part loop a) ws h b k = k
+front_after (one_part (kill s) a) ws h b k = b
+front_after (one_part (local s) a) ws h b k = k
+front_after (two_parts sequence a c) ws h b k = min b c
+front_after (two_parts parallel a c) ws h b k = b
+front_after (two_parts (when s) a c) ws h b k = min b a
 
 -- below the front f no rule applies, but maybe that of the guard g
 pub record QuietBelow (ks : List Kind) (ms : List Mark) (e : Signals) (f g : ℕ) : Type 0 where
