@@ -1,2 +1,5 @@
 pub mod Listed
 pub mod Each
+pub mod Times
+pub mod Growing
+pub mod Verdicts

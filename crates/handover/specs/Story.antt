@@ -1,5 +1,5 @@
 -- what the program prints of its input
-use Rattle.std.specs.Prelude.{ℕ, Bool, true, false, List, ◌++◌, length, map, codes, nat_eq, Ok, Err, Result}
+use Rattle.std.specs.Prelude.{◌≡◌, ℕ, Bool, true, false, List, [], ◌++◌, length, codes, nat_eq, Ok, Err, Result}
 use Rattle.std.specs.List.{flat_map}
 use lib.Pointwise.{pointwise}
 use Rattle.routine.specs.declared.kinds.SignalKind.{SignalKind}
@@ -13,38 +13,42 @@ use Rattle.routine.specs.View.{load_of}
 use Rattle.input.specs.Input.{table_part, rest_part}
 use Rattle.record.specs.Record.{record_of}
 use Rattle.relay.specs.Asked.{Asked}
-use Rattle.relay.specs.History.{start, pasts, after_calls}
-use Rattle.relay.specs.View.{Told, told}
+use Rattle.count.specs.Calls.{new_state}
+use Rattle.relay.specs.History.{Past, pasts, after_calls}
+use Rattle.relay.specs.Promises.{taken, accepted, ended, left_open}
 use Rattle.handover.specs.Calls.{list_of}
-use Rattle.handover.specs.Texts.{told_line, ended_line, byte_text}
+use Rattle.handover.specs.Texts.{told_lines, instant_line, byte_text}
 
 -- the record, and that it was taken over
 unfoldable pub handed_text : List ℕ → List ℕ
 handed_text handed = codes "hand over " ++ (flat_map byte_text handed ++ (line_end ++ (codes "taken over" ++ line_end)))
 
 -- a line for each call on the first board, the hand-over, and a line for each call on the second
-abbrev pub relay_text : List Told → List ℕ → List Told → List ℕ
-relay_text before handed later = flat_map told_line before ++ (handed_text handed ++ flat_map told_line later)
+abbrev pub relay_text : List Past → List ℕ → List Past → List ℕ
+relay_text before handed later = told_lines [] before ++ (handed_text handed ++ told_lines (left_open [] before) later)
 
--- the closed instants alone
-abbrev pub instants_text : List Told → List Told → List ℕ
-instants_text before later = flat_map ended_line before ++ flat_map ended_line later
+-- the closed instants alone, of a routine of n statements
+abbrev pub instants_text : ℕ → List Past → List ℕ
+instants_text n ps = flat_map instant_line (ended n [] ps)
 
--- what the calls come to on a new count of the routine, and after the hand-over
-abbrev pub before_of : List SignalKind → List Kind → List Asked → List Told
-before_of gs ks cs = map told (pasts gs ks (start ks) cs)
+-- what the calls cs come to on a new count of the routine, the record that is handed over, and what ds come to after it
+abbrev pub before_of : List SignalKind → List Kind → List Asked → List Past
+before_of gs ks cs = pasts gs ks (new_state ks) cs
 
 abbrev pub handed_of : List SignalKind → List Kind → List Asked → List ℕ
-handed_of gs ks cs = record_of (length gs) (length ks) (after_calls gs ks (start ks) cs).state
+handed_of gs ks cs = record_of (length gs) (length ks) (after_calls gs ks (new_state ks) cs)
 
-abbrev pub later_of : List SignalKind → List Kind → List Asked → List Asked → List Told
-later_of gs ks cs ds = map told (pasts gs ks (after_calls gs ks (start ks) cs) ds)
+abbrev pub later_of : List SignalKind → List Kind → List Asked → List Asked → List Past
+later_of gs ks cs ds = pasts gs ks (after_calls gs ks (new_state ks) cs) ds
+
+abbrev pub whole_of : List SignalKind → List Kind → List Asked → List Asked → List Past
+whole_of gs ks cs ds = before_of gs ks cs ++ later_of gs ks cs ds
 
 unfoldable pub told_relay : List SignalKind → List Kind → List Asked → List Asked → List ℕ
 told_relay gs ks cs ds = relay_text (before_of gs ks cs) (handed_of gs ks cs) (later_of gs ks cs ds)
 
 unfoldable pub told_instants : List SignalKind → List Kind → List Asked → List Asked → List ℕ
-told_instants gs ks cs ds = instants_text (before_of gs ks cs) (later_of gs ks cs ds)
+told_instants gs ks cs ds = instants_text (length ks) (whole_of gs ks cs ds)
 
 unfoldable pub verdict : Bool → List ℕ
 verdict true = codes "the same instants" ++ line_end
@@ -67,10 +71,35 @@ both_text first second same = one_way first ++ (other_way second ++ verdict same
 abbrev pub told_both : List SignalKind → List Kind → List Asked → List Asked → List Asked → List Asked → List ℕ
 told_both gs ks cs ds es fs = both_text (told_relay gs ks cs ds) (told_relay gs ks es fs) (same_text (told_instants gs ks cs ds) (told_instants gs ks es fs))
 
+-- the four lists, one after another
+abbrev pub first_of : List ℕ → List Asked
+first_of bytes = (list_of bytes).0
+
+abbrev pub second_of : List ℕ → List Asked
+second_of bytes = (list_of (list_of bytes).1).0
+
+abbrev pub third_of : List ℕ → List Asked
+third_of bytes = (list_of (list_of (list_of bytes).1).1).0
+
+abbrev pub fourth_of : List ℕ → List Asked
+fourth_of bytes = (list_of (list_of (list_of (list_of bytes).1).1).1).0
+
 unfoldable pub told_lists : List SignalKind → List Kind → List ℕ → List ℕ
-told_lists gs ks bytes =
-    told_both gs ks (list_of bytes).0 (list_of (list_of bytes).1).0 (list_of (list_of (list_of bytes).1).1).0
-    (list_of (list_of (list_of (list_of bytes).1).1).1).0
+told_lists gs ks bytes = told_both gs ks (first_of bytes) (second_of bytes) (third_of bytes) (fourth_of bytes)
+
+-- two relays of the routine accept the same words, as many instants are closed in both, and no take over is accepted
+pub record SameWords (gs : List SignalKind) (ks : List Kind) (cs ds es fs : List Asked) : Type 0 where
+  pub untaken : taken (whole_of gs ks cs ds) ≡ false
+  pub untaken_again : taken (whole_of gs ks es fs) ≡ false
+  pub words : accepted (whole_of gs ks cs ds) ≡ accepted (whole_of gs ks es fs)
+  pub many : length (ended (length ks) [] (whole_of gs ks cs ds)) ≡ length (ended (length ks) [] (whole_of gs ks es fs))
+
+-- with the verdict that the instants are the same
+abbrev pub told_same : List SignalKind → List Kind → List ℕ → List ℕ
+told_same gs ks bytes = both_text (told_relay gs ks (first_of bytes) (second_of bytes)) (told_relay gs ks (third_of bytes) (fourth_of bytes)) true
+
+abbrev pub SameWordsIn : List SignalKind → List Kind → List ℕ → Type 0
+SameWordsIn gs ks bytes = SameWords gs ks (first_of bytes) (second_of bytes) (third_of bytes) (fourth_of bytes)
 
 -- a table that is no routine is refused
 abbrev pub started : Result (List SignalKind × List Statement) Refusal → List ℕ → List ℕ

@@ -4,10 +4,11 @@ use Rattle.std.specs.List.{flat_map}
 use Rattle.routine.specs.Refusals.{refusal_line}
 use Rattle.routine.specs.Texts.{line_end}
 use Rattle.rules.specs.Rules.{Mark, idle, waiting, underway, done}
-use Rattle.rules.specs.Texts.{digit, hex}
+use Rattle.rules.specs.Texts.{digit, hex, instant_text}
 use Rattle.count.specs.declared.answers.Closing.{Closing}
 use Rattle.count.specs.Texts.{closing_text}
-use Rattle.relay.specs.View.{Told, begun, stepped, closed, reacted, taken_over, refused}
+use Rattle.relay.specs.History.{Past, begins, steps, closes, reacts, takes_over, refuses}
+use Rattle.relay.specs.Promises.{Ended, stepped_then}
 
 -- a letter for each mark
 abbrev pub letter : Mark → List ℕ
@@ -20,28 +21,38 @@ letter done = codes "d"
 abbrev pub ended_text : Closing → List Mark → List ℕ
 ended_text c ms = closing_text c ++ (codes " marks " ++ flat_map letter ms)
 
-abbrev pub step_text : ℕ → List ℕ
-step_text k = codes " " ++ decimal k
+-- numbers, each after a blank
+abbrev pub number_text : ℕ → List ℕ
+number_text k = codes " " ++ decimal k
 
-abbrev pub told_text : Told → List ℕ
-told_text (begun word) = codes "begin " ++ hex 16 word
-told_text (stepped k) = codes "step " ++ decimal k
-told_text (closed c ms v) = codes "close " ++ (ended_text c ms ++ (codes " stepped" ++ flat_map step_text v))
-told_text (reacted word c ms) = codes "react " ++ (hex 16 word ++ (codes " " ++ ended_text c ms))
-told_text taken_over = codes "take over"
-told_text (refused r) = refusal_line r
+abbrev pub numbers_text : List ℕ → List ℕ
+numbers_text = flat_map number_text
 
-abbrev pub told_line : Told → List ℕ
-told_line t = told_text t ++ line_end
+abbrev pub stepped_text : List ℕ → List ℕ
+stepped_text v = codes " stepped" ++ numbers_text v
 
--- the line of a closed instant alone
-abbrev pub ended_line : Told → List ℕ
-ended_line (begun word) = []
-ended_line (stepped k) = []
-ended_line (closed c ms v) = ended_text c ms ++ line_end
-ended_line (reacted word c ms) = ended_text c ms ++ line_end
-ended_line taken_over = []
-ended_line (refused r) = []
+-- what a call came to, where v was stepped before in an open instant
+abbrev pub told_text : List ℕ → Past → List ℕ
+told_text v (begins word) = codes "begin " ++ hex 16 word
+told_text v (steps k) = codes "step " ++ decimal k
+told_text v (closes c ms) = codes "close " ++ (ended_text c ms ++ stepped_text v)
+told_text v (reacts word c ms u) = codes "react " ++ (hex 16 word ++ (codes " " ++ (ended_text c ms ++ stepped_text u)))
+told_text v takes_over = codes "take over"
+told_text v (refuses r) = refusal_line r
+
+abbrev pub told_line : List ℕ → Past → List ℕ
+told_line v p = told_text v p ++ line_end
+
+-- a line for each call
+abbrev pub told_lines : List ℕ → List Past → List ℕ
+told_lines v [] = []
+told_lines v (p ∷ ps) = told_line v p ++ told_lines (stepped_then v p) ps
+
+-- a closed instant alone: its closing, the marks that remain, and how often each statement was stepped
+abbrev pub instant_line : Ended → List ℕ
+instant_line e =
+    instant_text e.instant e.outcome.outputs e.outcome.status e.outcome.steps
+    ++ (codes " marks " ++ (flat_map letter e.outcome.marks ++ (codes " times" ++ (numbers_text e.outcome.times ++ line_end))))
 
 -- two hexadecimal digits
 abbrev pub byte_text : ℕ → List ℕ

@@ -2,6 +2,7 @@
 
 mod calls;
 mod story;
+mod tellings;
 mod texts;
 
 use std::io::Read;

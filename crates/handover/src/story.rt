@@ -1,72 +1,16 @@
-ghost use Rattle.std.specs.Prelude.{◌≡◌, ◌++◌, map, IfOk, OnOk, string_bytes, vec_items};
+ghost use Rattle.std.specs.Prelude.{◌≡◌, ◌++◌, map, IfOk, OnOk, string_bytes};
 ghost use Rattle.routine.specs.View.{kinds_of, signals_of};
 ghost use Rattle.relay.specs.Asked.{asked};
-ghost use Rattle.relay.specs.View.{tells};
-ghost use Rattle.handover.specs.Story.{handed_text, relay_text, instants_text, told_relay, told_instants, one_way, other_way, both_text, same_text, told_lists, story_of, verdict};
+ghost use Rattle.handover.specs.Story.{one_way, other_way, both_text, same_text, told_lists, story_of, verdict, SameWords, SameWordsIn, told_same};
+ghost use Rattle.handover.specs.Telling.{IsTold};
 
 use crate::calls::list;
-use crate::texts::{write_bytes, write_events, write_instants};
+use crate::tellings::{Telling, tell_kept};
 use input::cut;
-use relay::{Call, Relayed, relay};
+use relay::{Keeper, Plan, relay_twice};
 use routine::{Refusal, Routine, load};
 use signals::{BitBoard, Board, StampBoard};
 use std::alloc::{AllocError, Global};
-
-// What a relay tells: a line for each call, and the closed instants alone.
-#[derive(Debug, Drop)]
-struct Telling {
-    text: String,
-    instants: String,
-}
-
-// The record that was handed over, and that it was taken over.
-#[tactic(auto, unfolding(crate::specs::Story::handed_text))]
-fn write_handed(out: &mut String, handed: &[u8]) -> Result<(), AllocError>
-    ensures { OnOk result (string_bytes out.new ≡ string_bytes out.old ++ handed_text handed.now) }
-{
-    write!(out, "hand over ")?;
-    write_bytes(out, handed)?;
-    writeln!(out)?;
-    writeln!(out, "taken over")
-}
-
-// A line for each call, and between them the hand-over.
-fn write_relayed(out: &mut String, relayed: &Relayed) -> Result<(), AllocError>
-    ensures { OnOk result (string_bytes out.new ≡ string_bytes out.old ++ relay_text (map tells (vec_items relayed.now.before)) relayed.now.handed (map tells (vec_items relayed.now.later))) }
-{
-    write_events(out, &relayed.before)?;
-    write_handed(out, &relayed.handed)?;
-    write_events(out, &relayed.later)
-}
-
-fn told(heap: Global, relayed: &Relayed) -> Result<Telling, AllocError>
-    ensures text { IfOk result (λ t. string_bytes t.text ≡ relay_text (map tells (vec_items relayed.now.before)) relayed.now.handed (map tells (vec_items relayed.now.later))) }
-    ensures instants { IfOk result (λ t. string_bytes t.instants ≡ instants_text (map tells (vec_items relayed.now.before)) (map tells (vec_items relayed.now.later))) }
-{
-    let mut text = String::new(heap);
-    write_relayed(&mut text, relayed)?;
-    let mut instants = String::new(heap);
-    write_instants(&mut instants, &relayed.before)?;
-    write_instants(&mut instants, &relayed.later)?;
-    Ok(Telling { text, instants })
-}
-
-// Carries out the two lists of calls on a new count of the routine.
-#[tactic(auto, unfolding(crate::specs::Story::told_relay, crate::specs::Story::told_instants))]
-fn tell<A: Board + Drop, B: Board + Drop>(
-    heap: Global,
-    routine: Routine,
-    first: A,
-    second: B,
-    before: &[Call<'_>],
-    later: &[Call<'_>],
-) -> Result<Telling, AllocError>
-    ensures text { IfOk result (λ t. string_bytes t.text ≡ told_relay (signals_of routine.table) (kinds_of routine.table) (map asked before.now) (map asked later.now)) }
-    ensures instants { IfOk result (λ t. string_bytes t.instants ≡ told_instants (signals_of routine.table) (kinds_of routine.table) (map asked before.now) (map asked later.now)) }
-{
-    let relayed = relay(heap, routine, first, second, before, later)?;
-    told(heap, &relayed)
-}
 
 #[tactic(auto, unfolding(crate::specs::Story::verdict))]
 fn write_verdict(out: &mut String, same: bool) -> Result<(), AllocError>
@@ -103,40 +47,66 @@ fn write_both(out: &mut String, first: &Telling, second: &Telling) -> Result<(),
     write_verdict(out, first.instants == second.instants)
 }
 
-// Both relays and their verdict; `one` and `other` are the same routine.
+// What two relays of a routine tell.
+#[derive(Debug, Drop)]
+struct Tellings {
+    first: Telling,
+    second: Telling,
+}
+
+// Two relays of the routine, told.
+fn tell_twice<A: Board + Drop, B: Board + Drop, C: Board + Drop, D: Board + Drop>(
+    heap: Global,
+    routine: Routine,
+    plan: Plan<'_, A, B>,
+    again: Plan<'_, C, D>,
+) -> Result<Tellings, AllocError>
+    ensures first { IfOk result (λ t. IsTold (signals_of routine.table) (kinds_of routine.table) (map asked plan.entry.before.now) (map asked plan.entry.later.now) t.first) }
+    ensures second { IfOk result (λ t. IsTold (signals_of routine.table) (kinds_of routine.table) (map asked again.entry.before.now) (map asked again.entry.later.now) t.second) }
+    ensures same { IfOk result (λ t. SameWords (signals_of routine.table) (kinds_of routine.table) (map asked plan.entry.before.now) (map asked plan.entry.later.now) (map asked again.entry.before.now) (map asked again.entry.later.now) → string_bytes t.first.instants ≡ string_bytes t.second.instants) }
+{
+    let statements = routine.count();
+    let mut k = Keeper::new(heap);
+    let mut l = Keeper::new(heap);
+    let mut m = Keeper::new(heap);
+    let mut n = Keeper::new(heap);
+    let (relayed, once_more, _) =
+        relay_twice(routine, plan, again, &mut k, &mut l, &mut m, &mut n);
+    let first = tell_kept(heap, statements, k, &relayed.handed, l)?;
+    let second = tell_kept(heap, statements, m, &once_more.handed, n)?;
+    Ok(Tellings { first, second })
+}
+
+// Both relays of the input, and their verdict.
 #[tactic(auto, unfolding(crate::specs::Story::told_lists))]
 fn tell_both(
     heap: Global,
     out: &mut String,
-    one: Routine,
-    other: Routine,
+    routine: Routine,
     bytes: &[u8],
 ) -> Result<(), AllocError>
-    requires signals { signals_of other.table ≡ signals_of one.table }
-    requires kinds { kinds_of other.table ≡ kinds_of one.table }
-    ensures { OnOk result (string_bytes out.new ≡ string_bytes out.old ++ told_lists (signals_of one.table) (kinds_of one.table) bytes.now) }
+    ensures tells { OnOk result (string_bytes out.new ≡ string_bytes out.old ++ told_lists (signals_of routine.table) (kinds_of routine.table) bytes.now) }
+    ensures same { OnOk result (SameWordsIn (signals_of routine.table) (kinds_of routine.table) bytes.now → string_bytes out.new ≡ string_bytes out.old ++ told_same (signals_of routine.table) (kinds_of routine.table) bytes.now) }
 {
     let (before, rest) = list(heap, bytes)?;
     let (later, rest) = list(heap, rest)?;
-    let first = tell(
-        heap,
-        one,
-        BitBoard::new(),
-        StampBoard::new(),
-        &before,
-        &later,
-    )?;
-    let (before, rest) = list(heap, rest)?;
-    let (later, _) = list(heap, rest)?;
-    let second = tell(
-        heap,
-        other,
-        StampBoard::new(),
-        BitBoard::new(),
-        &before,
-        &later,
-    )?;
-    write_both(out, &first, &second)
+    let (others, rest) = list(heap, rest)?;
+    let (last, _) = list(heap, rest)?;
+    let plan = Plan {
+        first: BitBoard::new(),
+        second: StampBoard::new(),
+        before: &before,
+        later: &later,
+    };
+    let again = Plan {
+        first: StampBoard::new(),
+        second: BitBoard::new(),
+        before: &others,
+        later: &last,
+    };
+    let tellings = tell_twice(heap, routine, plan, again)?;
+    write_both(out, &tellings.first, &tellings.second)?;
+    Ok(())
 }
 
 // What there is to print of the input's bytes.
@@ -146,11 +116,11 @@ pub(crate) fn story(heap: Global, bytes: &[u8]) -> Result<String, AllocError>
 {
     let mut text = String::new(heap);
     let (table, lists) = cut(bytes);
-    match (load(heap, table), load(heap, table)) {
-        (Ok(one), Ok(other)) => tell_both(heap, &mut text, one, other, lists)?,
+    match load(heap, table) {
+        Ok(routine) => tell_both(heap, &mut text, routine, lists)?,
         // Want of memory is no refusal of the table.
-        (Err(Refusal::Memory), _) | (_, Err(Refusal::Memory)) => return Err(AllocError),
-        (Err(refusal), _) | (_, Err(refusal)) => writeln!(text, "{refusal}")?,
+        Err(Refusal::Memory) => return Err(AllocError),
+        Err(refusal) => writeln!(text, "{refusal}")?,
     }
     Ok(text)
 }

@@ -1,8 +1,12 @@
-ghost use Rattle.std.specs.Prelude.{◌≡◌, ◌<◌, ◌++◌, map, OnOk, string_bytes};
+ghost use Rattle.std.specs.Prelude.{◌≡◌, ◌<◌, ◌++◌, OnOk, string_bytes};
 ghost use Rattle.std.specs.List.{flat_map};
 ghost use Rattle.rules.specs.Texts.{digit, hex};
 ghost use Rattle.relay.specs.View.{tells};
-ghost use Rattle.handover.specs.Texts.{letter, ended_text, step_text, told_text, told_line, ended_line, byte_text};
+ghost use Rattle.rules.specs.Model.{each_below};
+ghost use Rattle.rules.specs.Runs.{count};
+ghost use Rattle.std.proofs.Math.Decide.{ℕ_discrete};
+ghost use Rattle.relay.specs.Promises.{ended_as};
+ghost use Rattle.handover.specs.Texts.{letter, ended_text, numbers_text, stepped_text, told_text, instant_line, byte_text};
 
 use count::Closing;
 use relay::Event;
@@ -30,13 +34,20 @@ fn write_marks(out: &mut String, marks: &[Mark]) -> Result<(), AllocError>
     Ok(())
 }
 
-fn write_steps(out: &mut String, steps: &[usize]) -> Result<(), AllocError>
-    ensures { OnOk result (string_bytes out.new ≡ string_bytes out.old ++ flat_map step_text steps.now) }
+fn write_numbers(out: &mut String, numbers: &[usize]) -> Result<(), AllocError>
+    ensures { OnOk result (string_bytes out.new ≡ string_bytes out.old ++ numbers_text numbers.now) }
 {
-    for step in steps {
-        write!(out, " {step}")?;
+    for number in numbers {
+        write!(out, " {number}")?;
     }
     Ok(())
+}
+
+fn write_stepped(out: &mut String, stepped: &[usize]) -> Result<(), AllocError>
+    ensures { OnOk result (string_bytes out.new ≡ string_bytes out.old ++ stepped_text stepped.now) }
+{
+    write!(out, " stepped")?;
+    write_numbers(out, stepped)
 }
 
 // Sixteen hexadecimal digits.
@@ -54,8 +65,13 @@ fn write_ended(out: &mut String, closing: &Closing, marks: &[Mark]) -> Result<()
     write_marks(out, marks)
 }
 
-fn write_event(out: &mut String, event: &Event) -> Result<(), AllocError>
-    ensures { OnOk result (string_bytes out.new ≡ string_bytes out.old ++ told_text (tells event.now)) }
+// What a call came to, after those statements were stepped in an open instant.
+pub(crate) fn write_event(
+    out: &mut String,
+    stepped: &[usize],
+    event: &Event,
+) -> Result<(), AllocError>
+    ensures { OnOk result (string_bytes out.new ≡ string_bytes out.old ++ told_text stepped.now (tells event.now)) }
 {
     match event {
         Event::Begun { word } => {
@@ -63,63 +79,59 @@ fn write_event(out: &mut String, event: &Event) -> Result<(), AllocError>
             write_word(out, *word)
         }
         Event::Stepped { statement } => write!(out, "step {statement}"),
-        Event::Closed {
-            closing,
-            marks,
-            stepped,
-        } => {
+        Event::Closed { closing, marks } => {
             write!(out, "close ")?;
             write_ended(out, closing, marks)?;
-            write!(out, " stepped")?;
-            write_steps(out, stepped)
+            write_stepped(out, stepped)
         }
         Event::Reacted {
             word,
             closing,
             marks,
+            stepped,
         } => {
             write!(out, "react ")?;
             write_word(out, *word)?;
             write!(out, " ")?;
-            write_ended(out, closing, marks)
+            write_ended(out, closing, marks)?;
+            write_stepped(out, stepped)
         }
         Event::TakenOver => write!(out, "take over"),
         Event::Refused { refusal } => write!(out, "{refusal}"),
     }
 }
 
-// A line for each event.
-pub(crate) fn write_events(out: &mut String, events: &[Event]) -> Result<(), AllocError>
-    ensures { OnOk result (string_bytes out.new ≡ string_bytes out.old ++ flat_map told_line (map tells events.now)) }
+// How often the statement is among those that were stepped.
+fn how_often(stepped: &[usize], statement: usize) -> usize
+    ensures { result ≡ count ℕ_discrete statement stepped.now }
 {
-    for event in events {
-        write_event(out, event)?;
-        writeln!(out)?;
+    stepped.iter().filter(|&&k| k == statement).count()
+}
+
+// How often each of the statements was stepped.
+fn write_times(out: &mut String, statements: usize, stepped: &[usize]) -> Result<(), AllocError>
+    ensures { OnOk result (string_bytes out.new ≡ string_bytes out.old ++ numbers_text (each_below (λ i. count ℕ_discrete i stepped.now) statements)) }
+{
+    for statement in 0..statements {
+        write!(out, " {}", how_often(stepped, statement))?;
     }
     Ok(())
 }
 
-// The line of a closed instant, if the event closed one.
-fn write_instant(out: &mut String, event: &Event) -> Result<(), AllocError>
-    ensures { OnOk result (string_bytes out.new ≡ string_bytes out.old ++ ended_line (tells event.now)) }
+// The line of a closed instant, in which those of the statements were stepped.
+pub(crate) fn write_instant(
+    out: &mut String,
+    statements: usize,
+    closing: &Closing,
+    marks: &[Mark],
+    stepped: &[usize],
+) -> Result<(), AllocError>
+    ensures { OnOk result (string_bytes out.new ≡ string_bytes out.old ++ instant_line (ended_as statements closing.now marks.now stepped.now)) }
 {
-    match event {
-        Event::Closed { closing, marks, .. } | Event::Reacted { closing, marks, .. } => {
-            write_ended(out, closing, marks)?;
-            writeln!(out)
-        }
-        _ => Ok(()),
-    }
-}
-
-// A line for each closed instant.
-pub(crate) fn write_instants(out: &mut String, events: &[Event]) -> Result<(), AllocError>
-    ensures { OnOk result (string_bytes out.new ≡ string_bytes out.old ++ flat_map ended_line (map tells events.now)) }
-{
-    for event in events {
-        write_instant(out, event)?;
-    }
-    Ok(())
+    write_ended(out, closing, marks)?;
+    write!(out, " times")?;
+    write_times(out, statements, stepped)?;
+    writeln!(out)
 }
 
 // 0 to 9, then a to f.

@@ -45,25 +45,33 @@ ended_as n c ms v =
       outcome = record { outputs = c.outputs; status = c.status; times = each_below (λ i. count ℕ_discrete i v) n; steps = c.steps; marks = ms };
     }
 
--- the closed instants, where v was stepped before in an instant that is open
+-- the instant that p closes, if it closes one, where v was stepped before in an open instant
+abbrev pub ended_by : ℕ → List ℕ → Past → List Ended
+ended_by n v (begins w) = []
+ended_by n v (steps k) = []
+ended_by n v (closes c ms) = ended_as n c ms v ∷ []
+ended_by n v (reacts w c ms u) = ended_as n c ms u ∷ []
+ended_by n v takes_over = []
+ended_by n v (refuses r) = []
+
+-- what was stepped in the open instant after p
+abbrev pub stepped_then : List ℕ → Past → List ℕ
+stepped_then v (begins w) = []
+stepped_then v (steps k) = v ++ (k ∷ [])
+stepped_then v (closes c ms) = []
+stepped_then v (reacts w c ms u) = []
+stepped_then v takes_over = []
+stepped_then v (refuses r) = v
+
+-- the closed instants
 abbrev pub ended : ℕ → List ℕ → List Past → List Ended
 ended n v [] = []
-ended n v (begins w ∷ ps) = ended n [] ps
-ended n v (steps k ∷ ps) = ended n (v ++ (k ∷ [])) ps
-ended n v (closes c ms ∷ ps) = ended_as n c ms v ∷ ended n [] ps
-ended n v (reacts w c ms u ∷ ps) = ended_as n c ms u ∷ ended n [] ps
-ended n v (takes_over ∷ ps) = ended n [] ps
-ended n v (refuses r ∷ ps) = ended n v ps
+ended n v (p ∷ ps) = ended_by n v p ++ ended n (stepped_then v p) ps
 
--- the statements that were stepped in the instant that is left open, if one is
+-- what was stepped in the instant that is left open, if one is
 abbrev pub left_open : List ℕ → List Past → List ℕ
 left_open v [] = v
-left_open v (begins w ∷ ps) = left_open [] ps
-left_open v (steps k ∷ ps) = left_open (v ++ (k ∷ [])) ps
-left_open v (closes c ms ∷ ps) = left_open [] ps
-left_open v (reacts w c ms u ∷ ps) = left_open [] ps
-left_open v (takes_over ∷ ps) = left_open [] ps
-left_open v (refuses r ∷ ps) = left_open v ps
+left_open v (p ∷ ps) = left_open (stepped_then v p) ps
 
 -- the k-th closed instant has what the plain model gives for the k-th accepted word, in whatever order its statements were
 -- stepped: outputs, status, how often each statement was stepped, steps, remaining marks; they are numbered 1, 2, 3 ..; and no

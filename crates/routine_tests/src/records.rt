@@ -56,9 +56,9 @@ fn record(head: [u8; 15], marks: [u8; 13]) -> [u8; 279] {
 
 fn hands_over<B: Board + Drop>(rt: &impl Abort, count: Count<B>, record: [u8; 279]) -> Routine {
     let mut place = [255; 279];
-    let routine = count.hand_over(&mut place);
+    let released = count.hand_over(&mut place);
     assert!(rt; place == record);
-    routine
+    released.routine
 }
 
 fn at_rest<B: Board + Drop>(routine: Routine, board: B) -> Result<Count<B>, Fail> {
@@ -119,12 +119,15 @@ fn handed_over(rt: HostRuntime) -> Result<(), Fail> {
     passes_on(&rt, BitBoard::new(), StampBoard::at_last_stamp())?;
     passes_on(&rt, StampBoard::at_last_stamp(), BitBoard::new())?;
     let count = halfway(every_kind(rt.alloc())?, BitBoard::new())?;
-    let (count, handed) = change_board(count, StampBoard::new());
+    let moved = change_board(count, StampBoard::new());
+    let handed = moved.record;
     assert!(rt; handed == record(OPEN, OPEN_MARKS));
-    goes_on(&rt, count)?;
+    assert!(rt; moved.left.ask(1));
+    goes_on(&rt, moved.count)?;
     let count = Count::new(every_kind(rt.alloc())?, BitBoard::new());
-    let sent_on = forward(count, &handed);
+    let (sent_on, left) = forward(count, &handed);
     assert!(rt; sent_on == Ok(handed));
+    assert!(rt; left.board.ask(1));
     Ok(())
 }
 
@@ -139,7 +142,9 @@ fn handed_over_at_the_limits(rt: HostRuntime) -> Result<(), Fail> {
     );
     count.react(0)?;
     count.begin(u64::MAX)?;
-    let (mut count, handed) = change_board(count, StampBoard::new());
+    let moved = change_board(count, StampBoard::new());
+    let handed = moved.record;
+    let mut count = moved.count;
     let mut expected = [2; 279];
     expected[..15].copy_from_slice(&[8, 0, 15, 0, 23, 0, 0, 1, 1, 1, 0, 0, 0, 0, 0]);
     expected[15..23].copy_from_slice(&[255; 8]);

@@ -1,0 +1,12 @@
+use Rattle.handover.specs.Texts.{number_text}
+use Rattle.handover.proofs.Each.{writes_none, writes_more, writes_all}
+use Rattle.handover.proofs.texts.write_numbers.Goals as goal
+
+pub loop-number-init : goal.loop-number-init
+loop-number-init c = writes_none number_text _ _
+
+pub loop-number-preserved : goal.loop-number-preserved
+loop-number-preserved c = writes_more number_text _ _ _ _ _ _ c.loop-number-test.true c.loop-number.invariant c.in_ok-write.ensures.bytes
+
+pub returns : goal.returns
+returns c = writes_all number_text _ _ _ _ c.loop-number-test.false c.loop-number.invariant
