@@ -1,7 +1,7 @@
 use Rattle.std.proofs.Common.{true, false, rules, tests}
 use Rattle.std.proofs.lemmas.Iterator.{first_from_Range}
 use Rattle.routine.proofs.Searches.{finds}
-use Rattle.routine.proofs.tables.Table.offender.Goals as goal
+use Rattle.routine.proofs.rows.Rows.offender.Goals as goal
 
 pub returns : goal.returns
 returns g c =
