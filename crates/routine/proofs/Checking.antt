@@ -8,7 +8,7 @@ use Rattle.routine.specs.Kinds.{kind_at}
 use Rattle.routine.specs.Search.{lowest}
 use Rattle.routine.specs.Meaning.{stray, misuses, unscoped, endless, refusing, check_of, passes}
 
-abbrev chain : Option ℕ → Option ℕ → Option ℕ → Option ℕ → Option Refusal
+abbrev pub chain : Option ℕ → Option ℕ → Option ℕ → Option ℕ → Option Refusal
 chain a b c d = refusing a Parts (refusing b SignalUse (refusing c Scope (refusing d EndlessLoop None)))
 
 module _ (gs : List SignalKind) (ks : List Kind) where

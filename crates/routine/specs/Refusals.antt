@@ -1,5 +1,5 @@
 -- each refusal: its number, its layer, its place
-use Rattle.std.specs.Prelude.{◌≡◌, ℕ, List, ◌++◌, Some, None, Ok, Err, codes, decimal, Option, Result, MatchResult}
+use Rattle.std.specs.Prelude.{◌≡◌, ℕ, List, ◌++◌, Some, None, Ok, Err, codes, decimal, Option, Result, MatchResult, IfOk, IsOkAnd}
 use Rattle.routine.specs.declared.refusals.Refusal.{Refusal}
 use Rattle.routine.specs.declared.refusals.Refusal.TheVariants.{Form, SignalKind, Record, Parts, SignalUse, Scope, EndlessLoop}
 use Rattle.routine.specs.declared.refusals.Refusal.TheVariants.{AlreadyOpen, AlreadyOver, NoInstantLeft, NotInput, NotOpenToStep, NoSuchStatement, NotReady, NotOpenToClose, StillReady}
@@ -90,3 +90,8 @@ Answers d view (Err e) = d ≡ Err e
 abbrev pub AnswersOrMemory : {A B : Type 0} → Result A Refusal → (B → A) → Result B Refusal → Type 0
 AnswersOrMemory (Ok x) view r = MatchResult r (λ t. view t ≡ x) (λ e. e ≡ Memory)
 AnswersOrMemory (Err e) view r = r ≡ Err e
+
+-- the same of a value that says itself whether there is a refusal: its only error is want of memory
+abbrev pub SaysOrMemory : {A B E : Type 0} → Result A Refusal → (B → Result A Refusal) → Result B E → Type 0
+SaysOrMemory (Ok x) said r = IfOk r (λ t. said t ≡ Ok x)
+SaysOrMemory (Err e) said r = IsOkAnd r (λ t. said t ≡ Err e)
