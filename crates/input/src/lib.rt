@@ -1,7 +1,11 @@
 #![tactic(auto)]
 
+pub mod printed;
+
 ghost use Rattle.std.specs.Prelude.{◌≡◌};
 ghost use Rattle.input.specs.Input.{table_part, rest_part};
+
+pub use printed::Printed;
 
 // Cuts the input of a program into the table and what follows it.
 pub fn cut(bytes: &[u8]) -> (&[u8], &[u8])

@@ -8,3 +8,4 @@ pub mod Searches
 pub mod Checking
 pub mod Passed
 pub mod Whole
+pub mod Answered

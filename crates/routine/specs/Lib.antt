@@ -7,3 +7,4 @@ pub mod Layout
 pub mod Header
 pub mod Meaning
 pub mod View
+pub mod Lent

@@ -1,5 +1,5 @@
 -- each refusal: its number, its layer, its place
-use Rattle.std.specs.Prelude.{◌≡◌, ℕ, true, List, ◌++◌, is_some, Some, None, Ok, Err, codes, decimal, Option, Result}
+use Rattle.std.specs.Prelude.{◌≡◌, ℕ, List, ◌++◌, Some, None, Ok, Err, codes, decimal, Option, Result, MatchResult, IfOk, IsOkAnd}
 use Rattle.routine.specs.declared.refusals.Refusal.{Refusal}
 use Rattle.routine.specs.declared.refusals.Refusal.TheVariants.{Form, SignalKind, Record, Parts, SignalUse, Scope, EndlessLoop}
 use Rattle.routine.specs.declared.refusals.Refusal.TheVariants.{AlreadyOpen, AlreadyOver, NoInstantLeft, NotInput, NotOpenToStep, NoSuchStatement, NotReady, NotOpenToClose, StillReady}
@@ -80,7 +80,18 @@ line (Some n) p = codes "refused " ++ (decimal n ++ (codes " " ++ decimal p))
 abbrev pub refusal_line : Refusal → List ℕ
 refusal_line e = line (number_of e) (place_of e)
 
--- the answer r is what the definition d says, seen by `view`; for want of memory nothing is said
+-- the answer r is what the definition d says, seen by `view`
 abbrev pub Answers : {A B : Type 0} → Result A Refusal → (B → A) → Result B Refusal → Type 0
 Answers d view (Ok x) = d ≡ Ok (view x)
-Answers d view (Err e) = is_some (number_of e) ≡ true → d ≡ Err e
+Answers d view (Err e) = d ≡ Err e
+
+-- the same of an answer that takes memory: what the definition refuses is refused so, whatever memory there is;
+-- where it says a value, the answer is that value or want of memory
+abbrev pub AnswersOrMemory : {A B : Type 0} → Result A Refusal → (B → A) → Result B Refusal → Type 0
+AnswersOrMemory (Ok x) view r = MatchResult r (λ t. view t ≡ x) (λ e. e ≡ Memory)
+AnswersOrMemory (Err e) view r = r ≡ Err e
+
+-- the same of a value that says itself whether there is a refusal: its only error is want of memory
+abbrev pub SaysOrMemory : {A B E : Type 0} → Result A Refusal → (B → Result A Refusal) → Result B E → Type 0
+SaysOrMemory (Ok x) said r = IfOk r (λ t. said t ≡ Ok x)
+SaysOrMemory (Err e) said r = IsOkAnd r (λ t. said t ≡ Err e)

@@ -2,12 +2,14 @@ ghost use Rattle.std.specs.Prelude.{◌≡◌, ℕ, ◌+◌, ◌*◌, ◌<◌, �
 ghost use Rattle.routine.specs.Search.{any, FindsLowest};
 ghost use Rattle.routine.specs.Kinds.{shape, kind_at, shape_at};
 ghost use Rattle.routine.specs.Tree.{node, tree_at, contains, inside, can_end};
-ghost use Rattle.routine.specs.Meaning.{names, named, stray, signal_at, misuses, declares, encloses, in_scope, unscoped, endless};
-ghost use Rattle.routine.specs.View.{signals_of, kinds_of, count_of, PartsRise, Checks};
+ghost use Rattle.routine.specs.Meaning.{names, named, stray, signal_at, misuses, declares, encloses, in_scope, unscoped, endless, check_of};
+ghost use Rattle.routine.specs.View.{Checks};
+ghost use Rattle.routine.specs.Lent.{lent_signals, lent_kinds};
 
 use crate::checked::Routine;
 use crate::kinds::{Kind, SignalKind};
 use crate::refusals::Refusal;
+use crate::rows::Rows;
 use crate::tables::Table;
 
 // How often a statement of this kind names the part.
@@ -28,17 +30,10 @@ fn names(kind: Kind, part: usize) -> usize
     }
 }
 
-impl Table {
-    pub(crate) fn count(&self) -> usize
-        ensures rows { result ≡ count_of self.now }
-        ensures listed { result ≡ length (kinds_of self.now) }
-    {
-        self.statements.len()
-    }
-
+impl Rows<'_> {
     // How often statement a is named as a part.
     fn named(&self, a: usize) -> usize
-        ensures { result ≡ named (kinds_of self.now) (length (kinds_of self.now)) a }
+        ensures { result ≡ named (lent_kinds self.now) (length (lent_kinds self.now)) a }
     {
         self.statements.iter().map(|row| names(row.kind, a)).sum()
     }
@@ -46,7 +41,7 @@ impl Table {
     // Is k statement i, or does it lie inside it?
     #[cycle(contains_inside)]
     fn contains(&self, i: usize, k: usize) -> bool
-        ensures { result ≡ contains (tree_at (kinds_of self.now) i) k }
+        ensures { result ≡ contains (tree_at (lent_kinds self.now) i) k }
     {
         k == i || self.inside(i, k)
     }
@@ -54,7 +49,7 @@ impl Table {
     // Does statement k lie inside statement i?
     #[cycle(contains_inside)]
     fn inside(&self, i: usize, k: usize) -> bool
-        ensures { result ≡ inside (tree_at (kinds_of self.now) i) k }
+        ensures { result ≡ inside (tree_at (lent_kinds self.now) i) k }
     {
         match self.kind(i) {
             Kind::Nothing | Kind::Stop | Kind::Emit { .. } | Kind::Wait { .. } => false,
@@ -71,7 +66,7 @@ impl Table {
 
     // Can statement i end at once?
     fn can_end(&self, i: usize) -> bool
-        ensures { result ≡ can_end (tree_at (kinds_of self.now) i) }
+        ensures { result ≡ can_end (tree_at (lent_kinds self.now) i) }
     {
         match self.kind(i) {
             Kind::Nothing | Kind::Emit { .. } | Kind::Wait { .. } => true,
@@ -86,7 +81,7 @@ impl Table {
 
     // Is statement j a local statement of the signal?
     fn declares(&self, j: usize, signal: u8) -> bool
-        ensures { result ≡ declares (kind_at (kinds_of self.now) j) signal }
+        ensures { result ≡ declares (kind_at (lent_kinds self.now) j) signal }
     {
         match self.kind(j) {
             Kind::Local { signal: own, .. } => own == signal,
@@ -96,35 +91,35 @@ impl Table {
 
     // Is it one, with statement i inside?
     fn encloses(&self, j: usize, signal: u8, i: usize) -> bool
-        ensures { result ≡ encloses (kinds_of self.now) signal i j }
+        ensures { result ≡ encloses (lent_kinds self.now) signal i j }
     {
         self.declares(j, signal) && self.inside(j, i)
     }
 
     // Does statement i lie inside a local statement of the signal?
     fn in_scope(&self, signal: u8, i: usize) -> bool
-        ensures { result ≡ in_scope (kinds_of self.now) signal i }
+        ensures { result ≡ in_scope (lent_kinds self.now) signal i }
     {
         (0..self.count()).any(|j| self.encloses(j, signal, i))
     }
 
     // Is a statement below i a local statement of the signal?
     fn declared_before(&self, signal: u8, i: usize) -> bool
-        ensures { result ≡ any (λ j. declares (kind_at (kinds_of self.now) j) signal) i }
+        ensures { result ≡ any (λ j. declares (kind_at (lent_kinds self.now) j) signal) i }
     {
         (0..i).any(|j| self.declares(j, signal))
     }
 
     // What is no signal counts as an input.
     fn signal_or_input(&self, signal: u8) -> SignalKind
-        ensures { result ≡ signal_at (signals_of self.now) signal }
+        ensures { result ≡ signal_at (lent_signals self.now) signal }
     {
         self.signal(usize::from(signal))
             .unwrap_or(SignalKind::Input)
     }
 
     fn unscoped(&self, i: usize) -> bool
-        ensures { result ≡ unscoped (signals_of self.now) (kinds_of self.now) i (kind_at (kinds_of self.now) i) }
+        ensures { result ≡ unscoped (lent_signals self.now) (lent_kinds self.now) i (kind_at (lent_kinds self.now) i) }
     {
         match self.kind(i) {
             Kind::Emit { signal }
@@ -138,7 +133,7 @@ impl Table {
     }
 
     fn misuses(&self, i: usize) -> bool
-        ensures { result ≡ misuses (signals_of self.now) (kind_at (kinds_of self.now) i) }
+        ensures { result ≡ misuses (lent_signals self.now) (kind_at (lent_kinds self.now) i) }
     {
         match self.kind(i) {
             Kind::Emit { signal } => self.signal_or_input(signal) == SignalKind::Input,
@@ -148,7 +143,7 @@ impl Table {
     }
 
     fn endless(&self, i: usize) -> bool
-        ensures { result ≡ endless (kinds_of self.now) (kind_at (kinds_of self.now) i) }
+        ensures { result ≡ endless (lent_kinds self.now) (kind_at (lent_kinds self.now) i) }
     {
         match self.kind(i) {
             Kind::Loop { first } => self.can_end(usize::from(first)),
@@ -158,7 +153,7 @@ impl Table {
 
     // Is it another statement than the first, and not named as a part exactly once?
     fn is_stray(&self, i: usize) -> bool
-        ensures { result ≡ stray (kinds_of self.now) i }
+        ensures { result ≡ stray (lent_kinds self.now) i }
     {
         i != 0 && self.named(i) != 1
     }
@@ -166,9 +161,27 @@ impl Table {
     // The lowest statement of which `fails` says yes.
     fn offender<F: Fn(usize) -> bool>(&self, fails: F) -> Option<usize>
         requires { F.IsAlwaysCallable fails }
-        ensures { FindsLowest (F.post fails) (length (kinds_of self.now)) result }
+        ensures { FindsLowest (F.post fails) (length (lent_kinds self.now)) result }
     {
         (0..self.count()).find(|&i| fails(i))
+    }
+    // The first refusal that applies, if there is one.
+    pub(crate) fn fault(&self) -> Option<Refusal>
+        ensures { result ≡ check_of (lent_signals self.now) (lent_kinds self.now) }
+    {
+        if let Some(statement) = self.offender(|i| self.is_stray(i)) {
+            return Some(Refusal::Parts { statement });
+        }
+        if let Some(statement) = self.offender(|i| self.misuses(i)) {
+            return Some(Refusal::SignalUse { statement });
+        }
+        if let Some(statement) = self.offender(|i| self.unscoped(i)) {
+            return Some(Refusal::Scope { statement });
+        }
+        if let Some(statement) = self.offender(|i| self.endless(i)) {
+            return Some(Refusal::EndlessLoop { statement });
+        }
+        None
     }
 }
 
@@ -176,17 +189,8 @@ impl Table {
 pub fn check(table: Table) -> Result<Routine, Refusal>
     ensures { Checks table result }
 {
-    if let Some(statement) = table.offender(|i| table.is_stray(i)) {
-        return Err(Refusal::Parts { statement });
+    match table.rows().fault() {
+        Some(refusal) => Err(refusal),
+        None => Ok(Routine { table }),
     }
-    if let Some(statement) = table.offender(|i| table.misuses(i)) {
-        return Err(Refusal::SignalUse { statement });
-    }
-    if let Some(statement) = table.offender(|i| table.unscoped(i)) {
-        return Err(Refusal::Scope { statement });
-    }
-    if let Some(statement) = table.offender(|i| table.endless(i)) {
-        return Err(Refusal::EndlessLoop { statement });
-    }
-    Ok(Routine { table })
 }

@@ -7,8 +7,9 @@ use std::error::Error;
 use std::fmt;
 
 // Who raises a signal: the world outside, the routine for the outside, or the routine for itself.
-#[derive(Clone, Copy, Debug, PartialEq, Eq)]
+#[derive(Clone, Copy, Debug, Default, PartialEq, Eq)]
 pub enum SignalKind {
+    #[default]
     Input,
     Output,
     Local,
@@ -44,8 +45,9 @@ impl fmt::Display for UnknownSignal {
 impl Error for UnknownSignal {}
 
 // What a statement is. `first` and `second` are the numbers of its parts, `signal` that of its signal.
-#[derive(Clone, Copy, Debug, PartialEq, Eq)]
+#[derive(Clone, Copy, Debug, Default, PartialEq, Eq)]
 pub enum Kind {
+    #[default]
     Nothing,
     Stop,
     Emit { signal: u8 },
@@ -101,8 +103,9 @@ impl fmt::Display for UnknownStatement {
 impl Error for UnknownStatement {}
 
 // How far a statement has come in a count.
-#[derive(Clone, Copy, Debug, PartialEq, Eq)]
+#[derive(Clone, Copy, Debug, Default, PartialEq, Eq)]
 pub enum Mark {
+    #[default]
     Idle,
     Waiting,
     UnderWay,
@@ -110,7 +113,7 @@ pub enum Mark {
 }
 
 // A statement: what it is, and its mark. It is idle until a count begins it.
-#[derive(Clone, Copy, Debug, PartialEq, Eq)]
+#[derive(Clone, Copy, Debug, Default, PartialEq, Eq)]
 pub struct Statement {
     pub kind: Kind,
     pub mark: Mark,

@@ -2,12 +2,14 @@
 
 pub mod checked;
 pub mod checker;
+mod drafts;
 pub mod kinds;
 pub mod loader;
 pub mod questions;
 pub mod reader;
 pub mod reasons;
 pub mod refusals;
+mod rows;
 pub mod tables;
 
 pub use checked::Routine;

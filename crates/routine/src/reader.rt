@@ -1,11 +1,14 @@
-ghost use Rattle.std.specs.Prelude.{◌≡◌, ℕ, ◌+◌, ◌*◌, ◌<◌, ◌≤◌, true, false, List, length, vec_items, vec_len};
+ghost use Rattle.std.specs.Prelude.{◌≡◌, ◌+◌, ◌*◌, ◌≤◌, length};
 ghost use Rattle.routine.specs.Layout.{rises, fits, signals_from, records_from, read_of};
-ghost use Rattle.routine.specs.Refusals.{Answers};
+ghost use Rattle.routine.specs.Refusals.{Answers, AnswersOrMemory};
 ghost use Rattle.routine.specs.View.{content};
+ghost use Rattle.routine.specs.Lent.{draft_content};
 
+use crate::drafts::Draft;
 use crate::kinds::{Kind, SignalKind, Statement};
 use crate::refusals::Refusal;
 use crate::tables::Table;
+use arrayvec::ArrayVec;
 use std::alloc::Global;
 
 // What the contents announce: how many signals and statements there are.
@@ -79,21 +82,23 @@ fn word(low: u8, high: u8) -> usize
     usize::from(u16::from_le_bytes([low, high]))
 }
 
-fn read_signals(heap: Global, bytes: &[u8]) -> Result<Vec<SignalKind>, Refusal>
-    ensures { Answers (signals_from 0 bytes.now) vec_items result }
+fn read_signals(bytes: &[u8]) -> Result<ArrayVec<SignalKind, 64>, Refusal>
+    requires { length bytes.now ≤ 64 }
+    ensures { Answers (signals_from 0 bytes.now) (λ made. made.items) result }
 {
-    let mut made = Vec::new(heap);
+    let mut made = ArrayVec::new();
     for (signal, byte) in bytes.iter().enumerate() {
         let kind = SignalKind::try_from(*byte).map_err(|_| Refusal::SignalKind { signal })?;
-        made.push(kind)?;
+        made.push(kind);
     }
     Ok(made)
 }
 
-fn read_statements(heap: Global, bytes: &[u8], header: Header) -> Result<Vec<Statement>, Refusal>
-    ensures { Answers (records_from header.signals header.statements 0 bytes.now) vec_items result }
+fn read_statements(bytes: &[u8], header: Header) -> Result<ArrayVec<Statement, 256>, Refusal>
+    requires { length bytes.now ≤ 4 * 256 }
+    ensures { Answers (records_from header.signals header.statements 0 bytes.now) (λ made. made.items) result }
 {
-    let mut made = Vec::new(heap);
+    let mut made = ArrayVec::new();
     let mut left = bytes;
     // A rule of the project: a record is taken apart by a pattern that hands on the rest.
     while let [kind, signal, first, second, rest @ ..] = left {
@@ -104,22 +109,29 @@ fn read_statements(heap: Global, bytes: &[u8], header: Header) -> Result<Vec<Sta
         if !header.fits(statement, kind) {
             return Err(Refusal::Record { statement });
         }
-        made.push(Statement::new(kind))?;
+        made.push(Statement::new(kind));
         left = rest;
     }
     Ok(made)
 }
 
-// The table that the bytes say, or why they are none. The bytes may be any.
-pub fn read(heap: Global, bytes: &[u8]) -> Result<Table, Refusal>
-    ensures { Answers (read_of bytes.now) content result }
+// The table that the bytes say, on the stack, or why they are none.
+pub(crate) fn read_draft(bytes: &[u8]) -> Result<Draft, Refusal>
+    ensures { Answers (read_of bytes.now) draft_content result }
 {
     let header = Header::read(bytes)?;
     let (kinds, records) = bytes[8..].split_at(header.signals);
-    let signals = read_signals(heap, kinds)?;
-    let statements = read_statements(heap, records, header)?;
-    Ok(Table {
+    let signals = read_signals(kinds)?;
+    let statements = read_statements(records, header)?;
+    Ok(Draft {
         signals,
         statements,
     })
+}
+
+// The table that the bytes say, or why they are none. The bytes may be any. Want of memory comes only where they are one.
+pub fn read(heap: Global, bytes: &[u8]) -> Result<Table, Refusal>
+    ensures { AnswersOrMemory (read_of bytes.now) content result }
+{
+    read_draft(bytes)?.table(heap)
 }

@@ -1,8 +1,9 @@
-ghost use Rattle.std.specs.Prelude.{◌≡◌, ◌≤◌, vec_len, slice_get};
+ghost use Rattle.std.specs.Prelude.{◌≡◌, ◌≤◌, length, vec_items, vec_len, slice_get};
 ghost use Rattle.routine.specs.Kinds.{kinds};
 ghost use Rattle.routine.specs.Layout.{Formed};
 
 use crate::kinds::{Kind, SignalKind, Statement};
+use crate::rows::Rows;
 
 // What a table's bytes say, not yet checked: its signals and its statements, each with a number from 0 on.
 // A part is a number and no box, since calls and refusals name statements by number.
@@ -22,11 +23,28 @@ impl Table {
     ghost use Rattle.routine.specs.Tree.{node, tree_at};
     ghost use Rattle.routine.specs.View.{signals_of, kinds_of, count_of, PartsRise};
 
+    pub(crate) fn rows(&self) -> Rows<'_>
+        ensures signals { result.signals.now ≡ signals_of self.now }
+        ensures statements { result.statements.now ≡ vec_items self.now.statements }
+    {
+        Rows {
+            signals: self.signals.as_slice(),
+            statements: self.statements.as_slice(),
+        }
+    }
+
+    pub(crate) fn count(&self) -> usize
+        ensures rows { result ≡ count_of self.now }
+        ensures listed { result ≡ length (kinds_of self.now) }
+    {
+        self.statements.len()
+    }
+
     // The kind of a signal, if there is one of that number.
     pub fn signal(&self, signal: usize) -> Option<SignalKind>
         ensures { result ≡ slice_get (signals_of self.now) signal }
     {
-        self.signals.get(signal).copied()
+        self.rows().signal(signal)
     }
 
     // Statement i, one level of its tree, and where its parts lie. From the count on it counts as nothing.
@@ -35,6 +53,6 @@ impl Table {
         ensures rise { PartsRise (count_of self.now) i (shape result) }
         ensures level { tree_at (kinds_of self.now) i ≡ node i (shape result) (tree_at (kinds_of self.now)) }
     {
-        self.statements.get(i).map_or(Kind::Nothing, |row| row.kind)
+        self.rows().kind(i)
     }
 }

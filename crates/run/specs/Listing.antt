@@ -33,9 +33,9 @@ lines gs ks s [] = []
 lines gs ks s (w ∷ ws) = line_of (begin_refusal gs s w) (react_closing gs ks s w) (lines gs ks (react_state gs ks s w) ws)
 
 -- a table that is no routine is refused; else a new count reacts to the words
-abbrev pub started : Result (List SignalKind × List Statement) Refusal → List ℕ → List ℕ
-started (Ok p) ws = lines p.0 (kinds p.1) (new_state (kinds p.1)) ws
-started (Err e) ws = refused_line e
+abbrev pub started : Result (List SignalKind × List Statement) Refusal → List ℕ → Result (List ℕ) Refusal
+started (Ok p) ws = Ok (lines p.0 (kinds p.1) (new_state (kinds p.1)) ws)
+started (Err e) ws = Err e
 
-abbrev pub listing_of : List ℕ → List ℕ
+abbrev pub listing_of : List ℕ → Result (List ℕ) Refusal
 listing_of bytes = started (load_of (table_part bytes)) (words_of (rest_part bytes))

@@ -1,10 +1,12 @@
-ghost use Rattle.std.specs.Prelude.{◌≡◌, ◌++◌, IfOk, string_bytes, OnOk};
+ghost use Rattle.std.specs.Prelude.{◌≡◌, ◌++◌, string_bytes, OnOk};
+ghost use Rattle.routine.specs.Refusals.{SaysOrMemory};
 ghost use Rattle.count.specs.CountView.{kinds_of, signals_of, state_of};
+ghost use Rattle.input.specs.Printed.{said};
 ghost use Rattle.run.specs.Words.{words_of};
 ghost use Rattle.run.specs.Listing.{lines, listing_of};
 
 use count::Count;
-use input::cut;
+use input::{Printed, cut};
 use routine::{Refusal, load};
 use signals::{BitBoard, Board};
 use std::alloc::{AllocError, Global};
@@ -27,17 +29,18 @@ fn write_lines<B: Board>(
     Ok(())
 }
 
-// What there is to print of the input's bytes.
-pub fn listing(heap: Global, bytes: &[u8]) -> Result<String, AllocError>
-    ensures { IfOk result (λ s. string_bytes s ≡ listing_of bytes.now) }
+// What there is to print of the input's bytes. A table that is no routine is refused whatever memory there is.
+pub fn listing(heap: Global, bytes: &[u8]) -> Result<Printed, AllocError>
+    ensures { SaysOrMemory (listing_of bytes.now) said result }
 {
-    let mut text = String::new(heap);
     let (table, words) = cut(bytes);
-    match load(heap, table) {
-        Ok(routine) => write_lines(&mut text, &mut Count::new(routine, BitBoard::new()), words)?,
+    let routine = match load(heap, table) {
+        Ok(routine) => routine,
         // Want of memory is no refusal of the table.
         Err(Refusal::Memory) => return Err(AllocError),
-        Err(refusal) => writeln!(text, "{refusal}")?,
-    }
-    Ok(text)
+        Err(refusal) => return Ok(Printed::Refused { refusal }),
+    };
+    let mut text = String::new(heap);
+    write_lines(&mut text, &mut Count::new(routine, BitBoard::new()), words)?;
+    Ok(Printed::Lines { text })
 }

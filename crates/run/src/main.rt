@@ -12,7 +12,7 @@ use std::io::Read;
 fn main(rt: HostRuntime) -> anyhow::Result<()> {
     let mut bytes = Vec::new(rt.alloc());
     rt.stdin().take(65536).read_to_end(&mut bytes)?;
-    let text = listing(rt.alloc(), &bytes)?;
-    print!(rt; "{text}")?;
+    let printed = listing(rt.alloc(), &bytes)?;
+    print!(rt; "{printed}")?;
     Ok(())
 }

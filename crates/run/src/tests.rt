@@ -3,8 +3,8 @@ use std::process::Abort;
 use std::test::Fail;
 
 fn prints(rt: &(impl Abort + AllocGlobal), bytes: &[u8], text: &str) -> Result<(), Fail> {
-    let listed = listing(rt.alloc(), bytes)?;
-    assert_eq!(rt; listed.as_str(), text);
+    let printed = format!(in rt.alloc(); "{}", listing(rt.alloc(), bytes)?)?;
+    assert_eq!(rt; printed.as_str(), text);
     Ok(())
 }
 

@@ -1,4 +1,4 @@
--- what is printed of a table
+-- what there is to print of a table
 use Rattle.std.specs.Prelude.{ℕ, ◌+◌, ◌*◌, List, ◌++◌, length, Ok, Err, codes, decimal, Result}
 use Rattle.std.specs.List.{repeat}
 use Rattle.routine.specs.declared.kinds.SignalKind.{SignalKind}
@@ -6,9 +6,8 @@ use Rattle.routine.specs.declared.kinds.SignalKind.TheVariants.{Input, Output, L
 use Rattle.routine.specs.declared.kinds.Kind.{Kind}
 use Rattle.routine.specs.declared.kinds.Statement.{Statement}
 use Rattle.routine.specs.declared.refusals.Refusal.{Refusal}
-use Rattle.routine.specs.Refusals.{refusal_line}
 use Rattle.routine.specs.Kinds.{kinds, kind_at}
-use Rattle.routine.specs.Texts.{line_end, kind_text, reason_text}
+use Rattle.routine.specs.Texts.{line_end, kind_text}
 use Rattle.routine.specs.Tree.{Tree, leaf, one, two, tree_at}
 use Rattle.routine.specs.Meaning.{how_many}
 use Rattle.routine.specs.View.{load_of}
@@ -45,12 +44,10 @@ census gs ks = record { inputs = how_many Input gs; outputs = how_many Output gs
 abbrev pub routine_report : List SignalKind → List Kind → List ℕ
 routine_report gs ks = (census_text (census gs ks) ++ line_end) ++ outline ks 0 (tree_at ks 0)
 
-abbrev pub refusal_report : Refusal → List ℕ
-refusal_report e = refusal_line e ++ (line_end ++ (reason_text e ++ line_end))
+-- of a table that is no routine, its refusal
+abbrev pub verdict : Result (List SignalKind × List Statement) Refusal → Result (List ℕ) Refusal
+verdict (Ok p) = Ok (routine_report p.0 (kinds p.1))
+verdict (Err e) = Err e
 
-abbrev pub verdict : Result (List SignalKind × List Statement) Refusal → List ℕ
-verdict (Ok p) = routine_report p.0 (kinds p.1)
-verdict (Err e) = refusal_report e
-
-abbrev pub report_of : List ℕ → List ℕ
+abbrev pub report_of : List ℕ → Result (List ℕ) Refusal
 report_of bytes = verdict (load_of bytes)

@@ -1,9 +1,12 @@
-ghost use Rattle.std.specs.Prelude.{◌≡◌, IfOk, Some, string_bytes};
+ghost use Rattle.std.specs.Prelude.{◌≡◌, Some};
+ghost use Rattle.routine.specs.Refusals.{SaysOrMemory};
 ghost use Rattle.routine.specs.View.{signals_of, kinds_of};
 ghost use Rattle.tablecheck.specs.Report.{census_text, census, report_of};
+ghost use Rattle.tablecheck.specs.Printed.{said};
 
 use crate::outline::write_outline;
-use routine::{Reason, Refusal, Routine, SignalKind, load};
+use crate::printed::Printed;
+use routine::{Refusal, Routine, SignalKind, load};
 use std::alloc::{AllocError, Global};
 use std::fmt;
 
@@ -41,19 +44,18 @@ impl fmt::Display for Census {
     }
 }
 
-// What there is to say of a table's bytes: the routine that they are, or why they are none.
-pub fn report(heap: Global, bytes: &[u8]) -> Result<String, AllocError>
-    ensures { IfOk result (λ s. string_bytes s ≡ report_of bytes.now) }
+// What there is to say of a table's bytes: the routine that they are, or why they are none, whatever memory there is.
+pub fn report(heap: Global, bytes: &[u8]) -> Result<Printed, AllocError>
+    ensures { SaysOrMemory (report_of bytes.now) said result }
 {
-    let mut text = String::new(heap);
-    match load(heap, bytes) {
-        Ok(routine) => {
-            writeln!(text, "{}", Census::of(&routine))?;
-            write_outline(&mut text, &routine, 0, 0)?;
-        }
+    let routine = match load(heap, bytes) {
+        Ok(routine) => routine,
         // Want of memory is no refusal of the table.
         Err(Refusal::Memory) => return Err(AllocError),
-        Err(refusal) => writeln!(text, "{refusal}\n{}", Reason(refusal))?,
-    }
-    Ok(text)
+        Err(refusal) => return Ok(Printed::Refused { refusal }),
+    };
+    let mut text = String::new(heap);
+    writeln!(text, "{}", Census::of(&routine))?;
+    write_outline(&mut text, &routine, 0, 0)?;
+    Ok(Printed::Lines { text })
 }

@@ -1,0 +1,20 @@
+-- what is printed of a table
+use Rattle.std.specs.Prelude.{ℕ, List, ◌++◌, Ok, Err, Result, string_bytes}
+use Rattle.routine.specs.declared.refusals.Refusal.{Refusal}
+use Rattle.routine.specs.Refusals.{refusal_line}
+use Rattle.routine.specs.Texts.{line_end, reason_text}
+use Rattle.tablecheck.specs.declared.printed.Printed.{Printed}
+use Rattle.tablecheck.specs.declared.printed.Printed.TheVariants.{Refused, Lines}
+
+-- the refusal, or the text
+abbrev pub said : Printed → Result (List ℕ) Refusal
+said (Refused e) = Err e
+said (Lines t) = Ok (string_bytes t)
+
+-- in print: the text, or two lines for the refusal, by its number and in plain words
+abbrev pub in_print : Result (List ℕ) Refusal → List ℕ
+in_print (Ok text) = text
+in_print (Err e) = refusal_line e ++ (line_end ++ (reason_text e ++ line_end))
+
+abbrev pub printed_text : Printed → List ℕ
+printed_text p = in_print (said p)
