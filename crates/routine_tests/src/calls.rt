@@ -127,7 +127,7 @@ fn calls(rt: HostRuntime) -> Result<(), Fail> {
     emit_then_wait(
         &rt,
         routine(rt.alloc(), &[OUTPUT], &EMIT_AND_WAIT)?,
-        StampBoard::at_last_stamp(),
+        StampBoard::new(),
     )
 }
 
@@ -141,6 +141,6 @@ fn refused_calls(rt: HostRuntime) -> Result<(), Fail> {
     refusals(
         &rt,
         routine(rt.alloc(), &[INPUT, OUTPUT, LOCAL], &LOCAL_WAIT)?,
-        StampBoard::at_last_stamp(),
+        StampBoard::new(),
     )
 }

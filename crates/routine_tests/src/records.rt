@@ -116,8 +116,8 @@ fn handed_over(rt: HostRuntime) -> Result<(), Fail> {
     let count = at_rest(every_kind(rt.alloc())?, BitBoard::new())?;
     let routine = hands_over(&rt, count, record(RESTING, RESTING_MARKS));
     goes_on(&rt, halfway(routine, BitBoard::new())?)?;
-    passes_on(&rt, BitBoard::new(), StampBoard::at_last_stamp())?;
-    passes_on(&rt, StampBoard::at_last_stamp(), BitBoard::new())?;
+    passes_on(&rt, BitBoard::new(), StampBoard::new())?;
+    passes_on(&rt, StampBoard::new(), BitBoard::new())?;
     let count = halfway(every_kind(rt.alloc())?, BitBoard::new())?;
     let moved = change_board(count, StampBoard::new());
     let handed = moved.record;
@@ -277,11 +277,11 @@ fn wrong_marks<B: Board + Drop>(rt: &(impl Abort + AllocGlobal), board: B) -> Re
 #[test]
 fn refused_records(rt: HostRuntime) -> Result<(), Fail> {
     wrong_form(&rt, BitBoard::new())?;
-    wrong_form(&rt, StampBoard::at_last_stamp())?;
+    wrong_form(&rt, StampBoard::new())?;
     wrong_heads(&rt, BitBoard::new())?;
-    wrong_heads(&rt, StampBoard::at_last_stamp())?;
+    wrong_heads(&rt, StampBoard::new())?;
     wrong_marks(&rt, BitBoard::new())?;
-    wrong_marks(&rt, StampBoard::at_last_stamp())
+    wrong_marks(&rt, StampBoard::new())
 }
 
 // The last instant that can be counted.

@@ -66,7 +66,7 @@ fn lowest_first(rt: HostRuntime) -> Result<(), Fail> {
     upwards(
         &rt,
         routine(rt.alloc(), &[LOCAL, OUTPUT], &NEW_LIVES)?,
-        StampBoard::at_last_stamp(),
+        StampBoard::new(),
     )
 }
 

@@ -54,7 +54,7 @@ fn on_both_boards(
     reacts(
         rt,
         routine(rt.alloc(), signals, records)?,
-        StampBoard::at_last_stamp(),
+        StampBoard::new(),
         instants,
     )
 }

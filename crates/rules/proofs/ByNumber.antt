@@ -2,7 +2,8 @@
 use Rattle.std.proofs.Common.{◌≡◌, ℕ, ◌*◌, ◌≤◌, Bool, false, cond, ◌||◌, ◌⊎◌, List, length, get_or}
 use mathlib.Core.Option.{Option, none, some}
 use native.Mathlib.Decide.{ℕ_discrete}
-use Rattle.rules.specs.Runs.{Run, Quiet, Perm, Out}
+use Rattle.rules.specs.Runs.{Run, Quiet}
+use Rattle.rules.proofs.Permuted.{Perm, Out}
 use Rattle.rules.proofs.MarkedTrees.{Mark, idle, waiting, underway, done, Leaf, nothing, stop, emit, wait, One, loop, kill, local, Two, sequence, parallel, when}
 use Rattle.rules.proofs.MarkedTrees.{Marked, mleaf, mone, mtwo, begin, rest, Signals, Effect, quiet, raises, drops, apply, State, Scoped, Legal}
 use Rattle.rules.proofs.Potential.{size, Turns}

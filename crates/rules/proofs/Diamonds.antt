@@ -3,7 +3,7 @@ use Rattle.std.proofs.Common.{◌≡◌, ℕ, true, false, ◌⊎◌, sym, refl,
 use Rattle.rules.proofs.MarkedTrees.{Mark, One, Two, sequence, parallel, when}
 use Rattle.rules.proofs.MarkedTrees.{Marked, mleaf, mone, mtwo, Pos, here, left, right, begin, rest, Over, Signals, Present, Ready, ReadyOne, ReadyTwo, Opened}
 use Rattle.rules.proofs.MarkedTrees.{after, eff, apply, Effect, quiet, raises, drops, live, Legal, Binds, Names, Scoped, Can, next, Fine}
-use Rattle.rules.specs.Runs.{Diamond}
+use Rattle.rules.proofs.Permuted.{Diamond}
 use Rattle.rules.proofs.Effects.{set_comm, set-set, set_other, set_more}
 
 pub idle_not_over : (t : Marked) → Legal t → live t ≡ false → ¬ (Over t)

@@ -1,7 +1,8 @@
 -- runs over lists are runs over trees
 use Rattle.std.proofs.Common.{◌≡◌, ℕ, ◌*◌, ◌<◌, ◌≤◌, List, [], ◌∷◌, length, sym, refl, ap, ◌∙◌, subst, ap₂, arith, ext_get_or}
 use native.Mathlib.Decide.{ℕ_discrete}
-use Rattle.rules.specs.Runs.{Run, still, then, Quiet, count, Out, here, later, Perm, none_left, one_more}
+use Rattle.rules.specs.Runs.{Run, still, then, Quiet, count}
+use Rattle.rules.proofs.Permuted.{Out, here, later, Perm, none_left, one_more}
 use Rattle.rules.proofs.MarkedTrees.{Mark, idle, State, next, Signals, Legal, Scoped}
 use Rattle.rules.proofs.Potential.{size, Turns, steps_left}
 use Rattle.rules.proofs.Falling.{falls, instant_ends}

@@ -1,5 +1,6 @@
 pub mod MarkedTrees
 pub mod Potential
+pub mod Permuted
 pub mod ByNumber
 pub mod Pulled
 pub mod Effects

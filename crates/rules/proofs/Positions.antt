@@ -2,7 +2,8 @@
 use Rattle.std.proofs.Common.{◌≡◌, ℕ, suc, Bool, true, false, cond, ◌||◌, List, [], ◌∷◌, length, sym, refl, ap, ◌∙◌, subst, arith}
 use mathlib.Core.Option.{Option, none, some}
 use native.Mathlib.Decide.{ℕ_discrete}
-use Rattle.rules.specs.Runs.{Run, still, then, Diamond}
+use Rattle.rules.specs.Runs.{Run, still, then}
+use Rattle.rules.proofs.Permuted.{Diamond}
 use Rattle.rules.proofs.MarkedTrees.{Mark, done, Leaf, One, Two}
 use Rattle.rules.proofs.MarkedTrees.{Marked, mleaf, mone, mtwo, Pos, here, left, right, rest, Over, Signals, Ready, ReadyLeaf, ReadyOne, ReadyTwo, Opened}
 use Rattle.rules.proofs.MarkedTrees.{after, after_one, after_two, eff, leaf_effect, one_effect, apply, Effect, quiet, live, one_legal, two_legal, Legal}

@@ -1,5 +1,6 @@
 use Rattle.std.proofs.Common.{◌≡◌, List, ◌∷◌, map, sym, refl, subst, arith}
-use Rattle.rules.specs.Runs.{Run, still, then, Quiet, Out, here, later, Perm, none_left, one_more, Diamond, count}
+use Rattle.rules.specs.Runs.{Run, still, then, Quiet, count}
+use Rattle.rules.proofs.Permuted.{Out, here, later, Perm, none_left, one_more, Diamond}
 
 -- the labels may be counted by what they stand for
 module _ {L M : Type 0} (same : (i j : M) → Dec (i ≡ j)) (f : L → M) (k : M) where

@@ -9,7 +9,7 @@ use super::board::Board;
 // and begins again with 1. No `impl Model`: the contracts speak of the stamps.
 #[derive(Debug, Drop)]
 pub struct StampBoard {
-    stamps: [u32; 64],
+    pub(crate) stamps: [u32; 64],
     pub(crate) current: u32,
     // The stamp 0 is never current: a signal that has it is absent.
     ghost started: { 1 ≤ current },
@@ -27,20 +27,6 @@ impl StampBoard {
         StampBoard {
             stamps: [0; 64],
             current: 1,
-        }
-    }
-
-    // A board on which no signal is present, with the last stamp current: the next wipe wraps around.
-    // Two fields stand here and in `new`; a constructor that takes two numbers would be no plainer.
-    // Every signal has the stamp 1, and would be present again if that wipe left the stamps as they are.
-    pub fn at_last_stamp() -> StampBoard
-        ensures vacant { stamp_set result.stamps result.current ≡ empty }
-        ensures row { result.stamps ≡ replicate 64 1 }
-        ensures last { result.current ≡ 4294967295 }
-    {
-        StampBoard {
-            stamps: [1; 64],
-            current: u32::MAX,
         }
     }
 

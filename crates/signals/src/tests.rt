@@ -44,9 +44,18 @@ fn stamp_board(rt: HostRuntime) {
     exercise(&rt, &mut StampBoard::new());
 }
 
+// The next wipe wraps around. Every signal has the stamp 1, and would be present again if that wipe left the stamps.
+fn at_last_stamp() -> StampBoard {
+    StampBoard {
+        stamps: [1; 64],
+        current: u32::MAX,
+    }
+}
+
 #[test]
 fn wrap_around(rt: HostRuntime) {
-    let mut board = StampBoard::at_last_stamp();
+    let mut board = at_last_stamp();
+    assert_eq!(rt; answers(&board), 0);
     board.raise(0);
     board.raise(63);
     assert_eq!(rt; answers(&board), 1 << 63 | 1);
