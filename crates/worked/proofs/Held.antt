@@ -47,14 +47,31 @@ module _ (x : Example) where
 
 pub all_hold : Each Holds examples
 unfolding word_set empty tree tree_at check_of settled path first_stray pasts ℕ_discrete
-all_hold =
-    ( holds nothing_at_all refl refl refl refl refl refl refl (refl, tt),
-    ( holds just_stop refl refl refl refl refl refl refl (refl, (refl, tt)),
-    ( holds relayed refl refl refl refl refl refl refl (refl, tt),
-    ( holds too_late refl refl refl refl refl refl refl (refl, (refl, tt)),
-    ( holds killed refl refl refl refl refl refl refl (refl, (refl, (refl, tt))),
-    ( holds over_already refl refl refl refl refl refl refl (refl, tt),
-    ( holds new_life refl refl refl refl refl refl refl (refl, (refl, (refl, (refl, tt)))),
-    ( holds side_by_side refl refl refl refl refl refl refl (refl, tt),
-    ( holds endless refl refl refl refl refl refl refl tt,
-    ( holds takes_time refl refl refl refl refl refl refl tt, tt))))))))))
+all_hold = (
+  holds nothing_at_all refl refl refl refl refl refl refl (refl, tt),
+  (
+    holds just_stop refl refl refl refl refl refl refl (refl, (refl, tt)),
+    (
+      holds relayed refl refl refl refl refl refl refl (refl, tt),
+      (
+        holds too_late refl refl refl refl refl refl refl (refl, (refl, tt)),
+        (
+          holds killed refl refl refl refl refl refl refl (refl, (refl, (refl, tt))),
+          (
+            holds over_already refl refl refl refl refl refl refl (refl, tt),
+            (
+              holds new_life refl refl refl refl refl refl refl (refl, (refl, (refl, (refl, tt)))),
+              (
+                holds side_by_side refl refl refl refl refl refl refl (refl, tt),
+                (
+                  holds endless refl refl refl refl refl refl refl tt,
+                  (holds takes_time refl refl refl refl refl refl refl tt, tt),
+                ),
+              ),
+            ),
+          ),
+        ),
+      ),
+    ),
+  ),
+)

@@ -1,5 +1,5 @@
 -- the worked routines of docs/LANGUAGE.md, and what is claimed of each
-use Rattle.std.specs.Prelude.{ℕ, List, [], ◌∷◌, Some, None, Option}
+use Rattle.std.specs.Prelude.{List, [], ◌∷◌, Some, None}
 use Rattle.routine.specs.declared.kinds.SignalKind.TheVariants.{Input, Output, Local as Own}
 use Rattle.routine.specs.declared.kinds.Kind.TheVariants.{Nothing, Stop, Emit, Wait, Sequence, Parallel, Loop, When, Kill, Local}
 use Rattle.routine.specs.declared.refusals.Refusal.TheVariants.{EndlessLoop, AlreadyOver, NotReady}
@@ -49,7 +49,7 @@ relayed =
       calls = [];
     }
 
--- 4: local L(when L(nothing, emit L)), L = 0
+-- 4: local L(when L(nothing, emit L)), local L = 0
 abbrev pub too_late : Example
 too_late =
     record {
@@ -85,19 +85,19 @@ over_already =
       calls = [];
     }
 
--- 7: loop(local L(sequence(when L(emit O, nothing), sequence(stop, emit L)))), output O = 0, L = 1
+-- 7: loop(local L(sequence(when L(emit O, nothing), sequence(stop, emit L)))), local L = 0, output O = 1
 abbrev pub new_life : Example
 new_life =
     record {
       number = 7;
-      signals = Output ∷ Own ∷ [];
-      kinds = Loop 1 ∷ Local 1 2 ∷ Sequence 3 6 ∷ When 1 4 5 ∷ Emit 0 ∷ Nothing ∷ Sequence 7 8 ∷ Stop ∷ Emit 1 ∷ [];
+      signals = Own ∷ Output ∷ [];
+      kinds = Loop 1 ∷ Local 0 2 ∷ Sequence 3 6 ∷ When 0 4 5 ∷ Emit 1 ∷ Nothing ∷ Sequence 7 8 ∷ Stop ∷ Emit 0 ∷ [];
       refusal = None;
       words = (0, (0, S, 2)) ∷ (0, (0, S, 2)) ∷ (0, (0, S, 7)) ∷ (0, (0, S, 2)) ∷ [];
       calls = [];
     }
 
--- 8: parallel(emit A, wait A), output A = 0; the wait is not ready before the emit was stepped
+-- 8: parallel(emit A, wait A), output A = 0. The wait is not ready before the emit was stepped
 abbrev pub side_by_side : Example
 side_by_side =
     record {
