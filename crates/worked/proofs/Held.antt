@@ -1,77 +1,92 @@
 -- what is claimed of the worked routines holds, by computation
-use Rattle.std.proofs.Common.{◌≡◌, ℕ, Bool, true, false, not, List, length, map, None, nat_le, refl, arith}
+use Rattle.std.proofs.Common.{◌≡◌, ℕ, Bool, true, false, not, List, [], ◌∷◌, length, map, None, Option, nat_le, refl, ap, arith}
 use native.Mathlib.Decide.{ℕ_discrete}
 use Rattle.signals.specs.Sets.{word_set, empty}
-use Rattle.routine.specs.declared.kinds.Kind.{Kind}
+use Rattle.routine.specs.declared.refusals.Refusal.{Refusal}
 use Rattle.routine.specs.Search.{lowest}
 use Rattle.routine.specs.Kinds.{kind_at}
 use Rattle.routine.specs.Layout.{fits, Formed}
 use Rattle.routine.specs.Tree.{tree, tree_at}
 use Rattle.routine.specs.Meaning.{check_of}
 use Rattle.routine.proofs.Searches.{none_below}
+use Rattle.rules.specs.declared.status.Status.{Status}
 use Rattle.rules.specs.Model.{settled, path, model}
 use Rattle.count.specs.Calls.{first_stray}
-use Rattle.relay.specs.History.{pasts, start}
+use Rattle.relay.specs.History.{Past, pasts, start}
 use Rattle.worked.specs.Examples.{Example, firsts, seconds, Each, told, Holds}
-use Rattle.worked.specs.Worked.{nothing_at_all, just_stop, relayed, too_late, killed, over_already, new_life, side_by_side, endless, takes_time, examples}
+use Rattle.worked.specs.Worked.{examples}
+
+-- what is computed of an example
+record Computed : Type 0 where
+  few_signals : Bool
+  a_statement : Bool
+  few_statements : Bool
+  misfit : Option ℕ
+  refusal : Option Refusal
+  strays : List (Option ℕ)
+  words : List (ℕ × Status × ℕ)
+  calls : List Past
+
+abbrev misfits : Example → ℕ → Bool
+misfits x i = not (fits (length x.signals) (length x.kinds) i (kind_at x.kinds i))
+
+abbrev found : Example → Computed
+found x =
+    record {
+      few_signals = nat_le (length x.signals) 64;
+      a_statement = nat_le 1 (length x.kinds);
+      few_statements = nat_le (length x.kinds) 256;
+      misfit = lowest (misfits x) (length x.kinds);
+      refusal = check_of x.signals x.kinds;
+      strays = map (first_stray x.signals) (firsts x.words);
+      words = map told (model x.signals x.kinds (firsts x.words));
+      calls = pasts x.signals x.kinds (start x.kinds) (firsts x.calls);
+    }
+
+abbrev wanted : Example → Computed
+wanted x =
+    record {
+      few_signals = true;
+      a_statement = true;
+      few_statements = true;
+      misfit = None;
+      refusal = x.refusal;
+      strays = map (λ word. None) (firsts x.words);
+      words = seconds x.words;
+      calls = seconds x.calls;
+    }
 
 fit : (b : Bool) → not b ≡ false → b ≡ true
 fit true e = refl
 fit false e = absurd (grind arith)
 
 -- no statement is found that does not fit
-formed_by : (g : ℕ) (ks : List Kind) → lowest (λ i. not (fits g (length ks) i (kind_at ks i))) (length ks) ≡ None → Formed g ks
-formed_by g ks e = λ i l. fit (fits g (length ks) i (kind_at ks i)) (none_below (λ j. not (fits g (length ks) j (kind_at ks j))) (length ks) e i l)
+formed : (x : Example) → lowest (misfits x) (length x.kinds) ≡ None → Formed (length x.signals) x.kinds
+formed x e = λ i l. fit (fits (length x.signals) (length x.kinds) i (kind_at x.kinds i)) (none_below (misfits x) (length x.kinds) e i l)
 
-module _ (x : Example) where
-  abbrev misfit : ℕ → Bool
-  misfit i = not (fits (length x.signals) (length x.kinds) i (kind_at x.kinds i))
+none_each : (f : ℕ → Option ℕ) (ws : List ℕ) → map f ws ≡ map (λ w. None) ws → Each (λ w. f w ≡ None) ws
+none_each f [] e = tt
+none_each f (w ∷ ws) e = (grind (arith, e), none_each f ws (grind (arith, e)))
 
-  holds : nat_le (length x.signals) 64 ≡ true → nat_le 1 (length x.kinds) ≡ true → nat_le (length x.kinds) 256 ≡ true
-      → lowest misfit (length x.kinds) ≡ None
-      → check_of x.signals x.kinds ≡ x.refusal
-      → map told (model x.signals x.kinds (firsts x.words)) ≡ seconds x.words
-      → pasts x.signals x.kinds (start x.kinds) (firsts x.calls) ≡ seconds x.calls
-      → Each (λ word. first_stray x.signals word ≡ None) (firsts x.words)
-      → Holds x
-  holds g n m f c w p i =
-      record {
-        signals = grind (arith, g);
-        statements = (grind (arith, n), grind (arith, m));
-        formed = formed_by (length x.signals) x.kinds f;
-        checked = c;
-        inputs = i;
-        words = w;
-        calls = p;
-      }
+holds : (x : Example) → found x ≡ wanted x → Holds x
+holds x e =
+    let g = ap (λ (c : Computed). c.few_signals) e in
+    let n = ap (λ (c : Computed). c.a_statement) e in
+    let m = ap (λ (c : Computed). c.few_statements) e in
+    record {
+      signals = grind (arith, g);
+      statements = (grind (arith, n), grind (arith, m));
+      formed = formed x (ap (λ (c : Computed). c.misfit) e);
+      checked = ap (λ (c : Computed). c.refusal) e;
+      inputs = none_each (first_stray x.signals) (firsts x.words) (ap (λ (c : Computed). c.strays) e);
+      words = ap (λ (c : Computed). c.words) e;
+      calls = ap (λ (c : Computed). c.calls) e;
+    }
+
+each : (xs : List Example) → map found xs ≡ map wanted xs → Each Holds xs
+each [] e = tt
+each (x ∷ xs) e = (holds x (grind (arith, e)), each xs (grind (arith, e)))
 
 pub all_hold : Each Holds examples
 unfolding word_set empty tree tree_at check_of settled path first_stray pasts ℕ_discrete
-all_hold = (
-  holds nothing_at_all refl refl refl refl refl refl refl (refl, tt),
-  (
-    holds just_stop refl refl refl refl refl refl refl (refl, (refl, tt)),
-    (
-      holds relayed refl refl refl refl refl refl refl (refl, tt),
-      (
-        holds too_late refl refl refl refl refl refl refl (refl, (refl, tt)),
-        (
-          holds killed refl refl refl refl refl refl refl (refl, (refl, (refl, tt))),
-          (
-            holds over_already refl refl refl refl refl refl refl (refl, tt),
-            (
-              holds new_life refl refl refl refl refl refl refl (refl, (refl, (refl, (refl, tt)))),
-              (
-                holds side_by_side refl refl refl refl refl refl refl (refl, tt),
-                (
-                  holds endless refl refl refl refl refl refl refl tt,
-                  (holds takes_time refl refl refl refl refl refl refl tt, tt),
-                ),
-              ),
-            ),
-          ),
-        ),
-      ),
-    ),
-  ),
-)
+all_hold = each examples refl
