@@ -1,5 +1,7 @@
 -- from one count to another by a record
-use Rattle.std.proofs.Common.{None, ◌≡◌, ℕ, ◌<◌, ◌≤◌, List, length, get_or, Ok, sym, ap, ◌∙◌, ap₂}
+use Rattle.std.proofs.Common.{Some, None, Option, Result, ◌≡◌, ℕ, ◌<◌, ◌≤◌, List, length, get_or, Ok, refl, ap, ◌∙◌, ap₂}
+use Rattle.std.specs.Result.{result_and}
+use Rattle.routine.specs.declared.refusals.Refusal.{Refusal}
 use Rattle.routine.specs.declared.kinds.Kind.{Kind}
 use Rattle.routine.specs.declared.kinds.SignalKind.{SignalKind}
 use Rattle.record.specs.Answers.{answer}
@@ -7,7 +9,6 @@ use Rattle.record.specs.Record.{record_of}
 use Rattle.record.specs.Sound.{Sound}
 use Rattle.record.specs.State.{State}
 use Rattle.record.specs.Taking.{taking_refusal, state_in}
-use Rattle.record.proofs.Answered.{not_refused}
 use Rattle.record.proofs.Kept.{kept}
 use Rattle.record.proofs.Restored.{restored}
 use Rattle.record.specs.Trips.{SameBytes}
@@ -18,14 +19,16 @@ use Rattle.count.specs.Calls.{after}
 use Rattle.count.proofs.TakenOver.{few_signals}
 
 -- what was taken over is written again as the same bytes
-pub sent_on : (gs hs : List SignalKind) (ks ls : List Kind) (s t : State) (bytes place : List ℕ) (u v : Unit {0}) → length ks ≤ 256 → length gs ≤ 64
-    → ((i : ℕ) → get_or bytes i 0 < 256) → Ok u ≡ answer (taking_refusal gs ks bytes) v → t ≡ after (taking_refusal gs ks bytes) s (state_in (length ks) bytes)
-    → hs ≡ gs → ls ≡ ks → place ≡ record_of (length hs) (length ls) t → Ok place ≡ answer (taking_refusal gs ks bytes) bytes
-sent_on gs hs ks ls s t bytes place u v n g small says leaves e f written =
-    let none = not_refused {X = Unit {0}} (taking_refusal gs ks bytes) u v says in
-    let state : t ≡ state_in (length ks) bytes = leaves ∙ ap (λ o. after o s (state_in (length ks) bytes)) none in
-    ap Ok (written ∙ ap₂ (λ (x y : ℕ). record_of x y t) (ap length e) (ap length f) ∙ ap (record_of (length gs) (length ks)) state ∙ kept gs ks bytes n g small none)
-    ∙ sym (ap (λ o. answer o bytes) none)
+module _ (gs hs : List SignalKind) (ks ls : List Kind) (s t : State) (bytes place : List ℕ) (n : length ks ≤ 256) (g : length gs ≤ 64) (small : (i : ℕ) → get_or bytes i 0 < 256)
+    (e : hs ≡ gs) (f : ls ≡ ks) (written : place ≡ record_of (length hs) (length ls) t) where
+  by_answer : (o : Option Refusal) → taking_refusal gs ks bytes ≡ o → t ≡ after o s (state_in (length ks) bytes) → result_and {U = List ℕ} (answer {X = Unit {0}} o tt) (Ok place) ≡ answer o bytes
+  by_answer None none state =
+      ap Ok (written ∙ ap₂ (λ (x y : ℕ). record_of x y t) (ap length e) (ap length f) ∙ ap (record_of (length gs) (length ks)) state ∙ kept gs ks bytes n g small none)
+  by_answer (Some r) why state = refl
+
+  pub sent_on : (r : Result (Unit {0}) Refusal) → r ≡ answer {X = Unit {0}} (taking_refusal gs ks bytes) tt → t ≡ after (taking_refusal gs ks bytes) s (state_in (length ks) bytes)
+      → result_and {U = List ℕ} r (Ok place) ≡ answer (taking_refusal gs ks bytes) bytes
+  sent_on r says leaves = ap (λ q. result_and {U = List ℕ} q (Ok place)) says ∙ by_answer (taking_refusal gs ks bytes) refl leaves
 
 -- so it is with every record that is accepted
 pub same_bytes : (t : Rows) → SameBytes (signals_in t) (kinds_in t)

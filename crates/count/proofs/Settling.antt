@@ -61,13 +61,20 @@ module _ (ks : List Kind) (c : Config) where
     settled_ends (suc left) = ap (λ o. settled ks left (turned ks c o)) h ∙ settled_ends left
 
 extends_none : (t : Trace) → Extends t t []
-extends_none t = record { kept = λ h. h; told = λ h. sym (append-nil t.steps) }
+extends_none t = record { kept = λ h. h; told = λ h. sym (append-nil t.steps); fits = λ h l. (h, omega arith) }
 
 extends_more : {s t u : Trace} (v w : List ℕ) → Extends s t v → Extends t u w → Extends s u (v ++ w)
 extends_more {s = s} v w g h =
     record {
       kept = λ x. g.kept (h.kept x);
       told = λ x. h.told x ∙ ap (λ (xs : List ℕ). xs ++ w) (g.told (h.kept x)) ∙ append_assoc s.steps v w;
+      fits = λ x l.
+          let n = length-append v w in
+          let a = g.fits x (omega arith) in
+          let e = a.1 in
+          let b = h.fits a.0 (omega arith) in
+          let f = b.1 in
+          (b.0, omega arith);
     }
 
 pub turned_none : (ks : List Kind) (s : State) (from : Trace) → s.steps ≡ 0 → Turned ks s s from from 0

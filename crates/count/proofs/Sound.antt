@@ -130,7 +130,7 @@ step_sound p t u e k o h r m =
     subst (λ b. Keeps b (kinds_in u) (marks_in u)) (sym o) (step_keeps t u e k (subst (λ b. Keeps b (kinds_in t) (marks_in t)) o h) r m)
 
 -- what is over keeps its marks at the end
-over_ended : (t : Tree) (ms : List Mark) (e : Signals) → Lawful (marked t ms) → over t ms ≡ true → ended t ms e ≡ ms
+pub over_ended : (t : Tree) (ms : List Mark) (e : Signals) → Lawful (marked t ms) → over t ms ≡ true → ended t ms e ≡ ms
 over_ended (leaf n k) ms e g o = grind arith
 over_ended (one n k p) ms e g o = grind arith
 over_ended (two n k p q) ms e g o =
@@ -151,7 +151,7 @@ pub after_not_open : (b : Bool) → is_open (phase_of (status_of b)) ≡ false
 after_not_open true = refl
 after_not_open false = refl
 
-over_after : (b : Bool) → is_over (phase_of (status_of b)) ≡ true → b ≡ true
+pub over_after : (b : Bool) → is_over (phase_of (status_of b)) ≡ true → b ≡ true
 over_after true h = refl
 over_after false h = absurd (never false h refl)
 

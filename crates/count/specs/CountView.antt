@@ -1,11 +1,14 @@
 -- a count's state, and what a call does to it
-use Rattle.std.specs.Prelude.{◌≡◌, ℕ, Bool, List, length, IfErr, Option, Result}
+use Rattle.std.specs.Prelude.{◌≡◌, ℕ, Bool, List, length, vec_items, IfErr, Option, Result}
 use Rattle.routine.specs.declared.kinds.Kind.{Kind}
 use Rattle.routine.specs.declared.kinds.SignalKind.{SignalKind}
 use Rattle.routine.specs.declared.refusals.Refusal.{Refusal}
 use Rattle.signals.specs.declared.board.Board.{Ghosts}
 use Rattle.count.specs.declared.answers.Closing.{Closing}
 use Rattle.count.specs.declared.counts.Count.{Count}
+use Rattle.count.specs.declared.records.Released.{Released}
+use Rattle.routine.specs.Kinds.{marks}
+use Rattle.routine.specs.View.{kinds_of as kinds_read, signals_of as signals_read}
 use Rattle.record.specs.State.{State}
 use Rattle.record.specs.Answers.{answer}
 use Rattle.record.specs.Taking.{taking_refusal, state_in}
@@ -22,6 +25,13 @@ module _ {B : Type 0} {G : Ghosts B} where
   -- the set is the board's own, in every phase
   abbrev pub state_of : (B → List Bool) → Count B G → State
   state_of present c = record { phase = c.phase; closed = c.closed; steps = c.steps; marks = marks_in c.rows; present = present c.board }
+
+  -- a count of the routine of c, in the state s, left its board and its routine behind
+  pub record Leaves (present : B → List Bool) (c : Count B G) (s : State) (r : Released B) : Type 0 where
+    pub board : present r.board ≡ s.present
+    pub marks : marks (vec_items r.routine.table.statements) ≡ s.marks
+    pub kinds : kinds_read r.routine.table ≡ kinds_of c
+    pub signals : signals_read r.routine.table ≡ signals_of c
 
   -- d has the routine of c
   pub record SameRoutine (c d : Count B G) : Type 0 where

@@ -17,5 +17,6 @@ mod words;
 pub use answers::Closing;
 pub use counts::Count;
 pub use record::Phase;
-pub use tracers::Tracer;
+pub use records::Released;
+pub use tracers::{StepRow, Tracer};
 pub use trips::{change_board, forward};

@@ -1,5 +1,4 @@
 ghost use Rattle.std.specs.Prelude.{◌≡◌, false, length, slice_index_or};
-ghost use Rattle.routine.specs.View.{kinds_of as kinds_read, signals_of as signals_read};
 ghost use Rattle.rules.specs.Model.{word_from};
 ghost use Rattle.record.specs.Record.{record_of, head_of};
 ghost use Rattle.count.specs.CountView.{kinds_of, signals_of, state_of, TakesOver};
@@ -9,6 +8,13 @@ use crate::words;
 use record::{Head, Phase, Saved};
 use routine::{Refusal, Routine};
 use signals::Board;
+
+// What a count that was handed over leaves behind: its routine, with the marks that it had, and its board.
+#[derive(Debug, Drop)]
+pub struct Released<B> {
+    pub routine: Routine,
+    pub board: B,
+}
 
 // A count goes from one place to another as a record of 279 bytes.
 impl<B: Board> Count<B> {
@@ -34,16 +40,17 @@ impl<B: Board> Count<B> {
         }
     }
 
-    // Writes the count's record and gives its routine back; the count is used up.
-    pub fn hand_over(self, place: &mut [u8; 279]) -> Routine
-    where
-        B: Drop,
+    // Writes the count's record; the count is used up, and its routine and its board are given back as they are.
+    pub fn hand_over(self, place: &mut [u8; 279]) -> Released<B>
         ensures record { place.new ≡ record_of (length (signals_of self)) (length (kinds_of self)) (state_of B.present self) }
-        ensures kinds { kinds_read result.table ≡ kinds_of self }
-        ensures signals { signals_read result.table ≡ signals_of self }
+        ensures board { result.board ≡ self.board }
+        ensures routine { result.routine ≡ self.rows.routine }
     {
         *place = record::write(&self.head(), &self.rows.routine);
-        self.rows.routine
+        Released {
+            routine: self.rows.routine,
+            board: self.board,
+        }
     }
 
     // What the record says takes the place of what the count is at.

@@ -1,9 +1,11 @@
-ghost use Rattle.std.specs.Prelude.{true, [], ◌∷◌};
-ghost use Rattle.count.specs.Traces.{Trace, Extends};
+ghost use Rattle.std.specs.Prelude.{◌≡◌, true, false, [], ◌∷◌};
+ghost use Rattle.count.specs.Traces.{Trace, Extends, row_trace};
+
+use arrayvec::ArrayVec;
 
 // Who is told of each turn of a reaction: the statement that it steps.
 pub trait Tracer {
-    // The statements told so far, and whether some are missing.
+    // The statements told so far, whether some are missing, and for how many more there is room.
     ghost trace: { Self → Trace };
 
     fn step(&mut self, statement: usize)
@@ -15,7 +17,46 @@ pub trait Tracer {
 pub(crate) struct Untraced;
 
 impl Tracer for Untraced {
-    ghost trace = { λ _. record { steps = []; lost = true } };
+    ghost trace = { λ _. record { steps = []; lost = true; room = 0 } };
 
     fn step(&mut self, _statement: usize) {}
+}
+
+// How many steps an instant can have, in any routine: 4 for each of 256 statements.
+const MOST_STEPS: usize = 1024;
+
+// Keeps the statements of one reaction, for which it always has room; it allocates nothing.
+#[derive(Debug, Drop)]
+pub struct StepRow {
+    steps: ArrayVec<usize, MOST_STEPS>,
+    lost: bool,
+}
+
+impl StepRow {
+    // A row that was told of none.
+    pub fn new() -> StepRow
+        ensures { row_trace result ≡ record { steps = []; lost = false; room = 1024 } }
+    {
+        StepRow {
+            steps: ArrayVec::new(),
+            lost: false,
+        }
+    }
+
+    // The statements that it was told of, the latest last.
+    pub fn steps(&self) -> &[usize]
+        ensures { result.now ≡ (row_trace self.now).steps }
+    {
+        &self.steps
+    }
+}
+
+impl Tracer for StepRow {
+    ghost trace = { row_trace };
+
+    fn step(&mut self, statement: usize) {
+        if self.steps.try_push(statement).is_err() {
+            self.lost = true;
+        }
+    }
 }

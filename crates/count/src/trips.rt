@@ -1,38 +1,60 @@
 ghost use Rattle.std.specs.Prelude.{◌≡◌, length, None};
 ghost use Rattle.record.specs.Answers.{answer};
 ghost use Rattle.record.specs.Record.{record_of};
-ghost use Rattle.record.specs.Taking.{taking_refusal};
+ghost use Rattle.record.specs.Taking.{taking_refusal, state_in};
 ghost use Rattle.record.specs.Trips.{SameBytes};
-ghost use Rattle.count.specs.CountView.{kinds_of, signals_of, state_of};
+ghost use Rattle.count.specs.Calls.{after};
+ghost use Rattle.count.specs.CountView.{kinds_of, signals_of, state_of, Leaves};
 
 use crate::counts::Count;
+use crate::records::Released;
 use routine::Refusal;
 use signals::Board;
 
 // Takes a record over and hands it over straight away: the same bytes, as every record that is accepted is when it is written
-// again.
-pub fn forward<B: Board + Drop>(mut count: Count<B>, record: &[u8]) -> Result<[u8; 279], Refusal>
-    ensures answers { result ≡ answer (taking_refusal (signals_of count) (kinds_of count) «record».now) «record».now }
+// again. What the count leaves behind is given back too.
+pub fn forward<B: Board>(
+    mut count: Count<B>,
+    record: &[u8],
+) -> (Result<[u8; 279], Refusal>, Released<B>)
+    ensures answers { result.0 ≡ answer (taking_refusal (signals_of count) (kinds_of count) «record».now) «record».now }
+    ensures leaves { Leaves B.present count (after (taking_refusal (signals_of count) (kinds_of count) «record».now) (state_of B.present count) (state_in (length (kinds_of count)) «record».now)) result.1 }
     ensures law { SameBytes (signals_of count) (kinds_of count) }
 {
     let mut place = [0; 279];
-    count.take_over(record)?;
-    count.hand_over(&mut place);
-    Ok(place)
+    let taken = count.take_over(record);
+    let left = count.hand_over(&mut place);
+    (taken.and(Ok(place)), left)
 }
 
-// The count on another board, by way of its record, which it gives too: its state is the same.
-pub fn change_board<A: Board + Drop, B: Board>(count: Count<A>, board: B) -> (Count<B>, [u8; 279])
-    ensures accepted { taking_refusal (signals_of count) (kinds_of count) result.1 ≡ None }
-    ensures record { result.1 ≡ record_of (length (signals_of count)) (length (kinds_of count)) (state_of A.present count) }
-    ensures state { state_of B.present result.0 ≡ state_of A.present count }
-    ensures kinds { kinds_of result.0 ≡ kinds_of count }
-    ensures signals { signals_of result.0 ≡ signals_of count }
+// A count on another board, the record by which it went there, and the board that it left.
+#[derive(Debug, Drop)]
+pub struct Moved<A, B: Board> {
+    pub count: Count<B>,
+    pub record: [u8; 279],
+    pub left: A,
+}
+
+// The count on another board, by way of its record: its state is the same.
+pub fn change_board<A: Board, B: Board>(count: Count<A>, board: B) -> Moved<A, B>
+    ensures accepted { taking_refusal (signals_of count) (kinds_of count) result.record ≡ None }
+    ensures record { result.record ≡ record_of (length (signals_of count)) (length (kinds_of count)) (state_of A.present count) }
+    ensures state { state_of B.present result.count ≡ state_of A.present count }
+    ensures kinds { kinds_of result.count ≡ kinds_of count }
+    ensures signals { signals_of result.count ≡ signals_of count }
+    ensures left { result.left ≡ count.board }
 {
     let mut record = [0; 279];
-    let routine = count.hand_over(&mut record);
+    let Released {
+        routine,
+        board: left,
+    } = count.hand_over(&mut record);
     let mut count = Count::new(routine, board);
     // The record of a count is never refused, so there is nothing to tell of the answer.
     let _ = count.take_over(&record);
-    (count, record)
+    Moved {
+        count,
+        record,
+        left,
+    }
 }

@@ -11,7 +11,7 @@ use Rattle.record.specs.Phases.{is_open}
 use Rattle.record.specs.State.{State}
 use Rattle.count.specs.Calls.{step_by, close_by, still_ready}
 
-never_refused : {P : Type 0} {r : Refusal} → Some r ≡ None → P
+pub never_refused : {P : Type 0} {r : Refusal} → Some r ≡ None → P
 never_refused h = absurd (let z : ◌≡◌ {A = ℕ} 0 1 = cc in omega arith)
 
 both_tests : (below here : Bool) (r q : Refusal) → cond below (cond here None (Some r)) (Some q) ≡ None → here ≡ true

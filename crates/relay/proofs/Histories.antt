@@ -11,24 +11,30 @@ use Rattle.rules.specs.Theorems.{Checked}
 use Rattle.rules.proofs.Stays.{marks_stay_legal}
 use Rattle.count.proofs.Sound.{never}
 use Rattle.relay.specs.Asked.{Asked}
-use Rattle.relay.specs.History.{Past, begins, steps, closes, reacts, takes_over, refuses, Standing, past_of, after_call, pasts, after_calls, start}
-use Rattle.relay.specs.Promises.{taken, accepted, Ended, ended, AsModel, AlwaysAsModel, Happened, SameWordsSameInstants}
+use Rattle.record.specs.State.{State}
+use Rattle.count.specs.Calls.{new_state}
+use Rattle.relay.specs.History.{Past, begins, steps, closes, reacts, takes_over, refuses, past_of, after_call, pasts, after_calls}
+use Rattle.relay.specs.Promises.{taken, accepted, Ended, ended, AsModel, SameInstants}
 use Rattle.relay.proofs.Instants.{few_steps, Stands, between, inside, Follows, by_call}
 
 untaken : (p : Past) (ps : List Past) → taken (p ∷ ps) ≡ false → (p ≢ takes_over) × (taken ps ≡ false)
 untaken (begins w) ps t = (λ h. (cc), t)
 untaken (steps k) ps t = (λ h. (cc), t)
-untaken (closes c ms v) ps t = (λ h. (cc), t)
+untaken (closes c ms) ps t = (λ h. (cc), t)
 untaken (reacts w c ms v) ps t = (λ h. (cc), t)
 untaken takes_over ps t = absurd (never true refl t)
 untaken (refuses r) ps t = (λ h. (cc), t)
 
 -- one list of calls after another
-pasts_append : (gs : List SignalKind) (ks : List Kind) (cs ds : List Asked) (a : Standing)
-    → pasts gs ks a (cs ++ ds) ≡ pasts gs ks a cs ++ pasts gs ks (after_calls gs ks a cs) ds
+pub pasts_append : (gs : List SignalKind) (ks : List Kind) (cs ds : List Asked) (s : State) → pasts gs ks s (cs ++ ds) ≡ pasts gs ks s cs ++ pasts gs ks (after_calls gs ks s cs) ds
 unfolding pasts after_calls
-pasts_append gs ks [] ds a = refl
-pasts_append gs ks (c ∷ cs) ds a = ap (λ (ps : List Past). past_of gs ks a c ∷ ps) (pasts_append gs ks cs ds (after_call gs ks a c))
+pasts_append gs ks [] ds s = refl
+pasts_append gs ks (c ∷ cs) ds s = ap (λ (ps : List Past). past_of gs ks s c ∷ ps) (pasts_append gs ks cs ds (after_call gs ks s c))
+
+pub after_append : (gs : List SignalKind) (ks : List Kind) (cs ds : List Asked) (s : State) → after_calls gs ks s (cs ++ ds) ≡ after_calls gs ks (after_calls gs ks s cs) ds
+unfolding after_calls
+after_append gs ks [] ds s = refl
+after_append gs ks (c ∷ cs) ds s = after_append gs ks cs ds (after_call gs ks s c)
 
 slice_get-take : {X : Type 0} (xs : List X) (n k : ℕ) → k < n → slice_get (take n xs) k ≡ slice_get xs k
 slice_get-take xs zero k l = absurd (omega arith)
@@ -43,55 +49,44 @@ module _ (gs : List SignalKind) (ks : List Kind) where
   first_words ms (w ∷ ws) zero = refl
   first_words ms (w ∷ ws) (suc k) = first_words (instant gs ks ms w).marks ws k
 
-  outcome_at : (ps : List Past) (k : ℕ) (e : Ended) → AsModel gs ks ps → slice_get (ended (length ks) ps) k ≡ Some e
+  outcome_at : (ps : List Past) (k : ℕ) (e : Ended) → AsModel gs ks ps → slice_get (ended (length ks) [] ps) k ≡ Some e
       → Some e.outcome ≡ slice_get (model gs ks (take (k + 1) (accepted ps))) k
   outcome_at ps k e M h =
-      let es = ended (length ks) ps in
+      let es = ended (length ks) [] ps in
       sym (slice_get-map (λ (x : Ended). x.outcome) es k ∙ ap (option_map (λ (x : Ended). x.outcome)) h)
       ∙ ap (λ (os : List Outcome). slice_get os k) M.instants
       ∙ slice_get-take (model gs ks (accepted ps)) (length es) k (slice_get_within es k e h)
       ∙ first_words (first_marks ks) (accepted ps) k
       ∙ ap (λ (n : ℕ). slice_get (model gs ks (take n (accepted ps))) k) (sym (add-one k))
 
-module _ (gs : List SignalKind) (ks : List Kind) (C : Checked gs ks) (few : length ks ≤ 256) where
-  abbrev From : List Mark → List ℕ → Standing → List Past → Type 0
-  From ms ws a ps = Follows gs ks C few ms ws a ps
-
-  no_calls : (a : Standing) {ms : List Mark} {ws : List ℕ} → Stands gs ks C few a ms ws → From ms ws a []
-  no_calls a S = record { instants = refl; numbers = λ k e h. absurd (none-some e h); counted = λ k e h. absurd (none-some e h); closed_steps = λ k e h. absurd (none-some e h); open_steps = so_far S }
-    where
-      so_far : {ms : List Mark} {ws : List ℕ} → Stands gs ks C few a ms ws → length a.stepped ≤ 4 * length ks
-      so_far (between o L e) = let l = ap length e in omega arith
-      so_far (inside {ms = ms} {word = word} o L r e) = few_steps gs ks C few ms word L r
-
-  follows : (cs : List Asked) (a : Standing) {ms : List Mark} {ws : List ℕ} → Stands gs ks C few a ms ws → taken (pasts gs ks a cs) ≡ false → From ms ws a (pasts gs ks a cs)
-  unfolding pasts
-  follows [] a S t = no_calls a S
-  follows (c ∷ cs) a S t =
-      let b = after_call gs ks a c in
-      let u = untaken (past_of gs ks a c) (pasts gs ks b cs) t in
-      let l = by_call gs ks C few a c S u.0 in
-      l.before (pasts gs ks b cs) (follows cs b l.stands u.1)
-
-  as_model : (cs : List Asked) → taken (pasts gs ks (start ks) cs) ≡ false → AsModel gs ks (pasts gs ks (start ks) cs)
-  as_model cs t =
-      let F = follows cs (start ks) (between refl (marks_stay_legal gs ks C).starts refl) t in
-      record { instants = F.instants; numbers = λ k e h. F.numbers k e h ∙ omega arith; counted = F.counted; closed_steps = F.closed_steps; open_steps = F.open_steps }
-
-  pub always_as_model : AlwaysAsModel gs ks
-  always_as_model cs ds t =
-      let e = pasts_append gs ks cs ds (start ks) in
-      subst (AsModel gs ks) e (as_model (cs ++ ds) (ap taken e ∙ t))
-
-  happened : (ps : List Past) → Happened gs ks ps → AsModel gs ks ps
-  happened ps H = subst (AsModel gs ks) (sym H.is) (always_as_model H.before H.later (ap taken (sym H.is) ∙ H.untaken))
-
-  pub same_words : SameWordsSameInstants gs ks
-  same_words ps qs H K k same a b g h =
-      let M = happened ps H in
-      let N = happened qs K in
+  -- so two lists of which each is as the model says agree
+  pub same_instants : (ps qs : List Past) → AsModel gs ks ps → AsModel gs ks qs → SameInstants (length ks) ps qs
+  same_instants ps qs M N k same a b g h =
       let o : a.outcome ≡ b.outcome =
-      same_Some _ _ (outcome_at gs ks ps k a M g ∙ ap (λ (ws : List ℕ). slice_get (model gs ks ws) k) same ∙ sym (outcome_at gs ks qs k b N h)) in
+      same_Some _ _ (outcome_at ps k a M g ∙ ap (λ (ws : List ℕ). slice_get (model gs ks ws) k) same ∙ sym (outcome_at qs k b N h)) in
       let t : a.accepted_steps ≡ b.accepted_steps = sym (M.counted k a g) ∙ ap (λ (x : Outcome). x.steps) o ∙ N.counted k b h in
       ap₂ (λ (n t : ℕ). record { instant = n; accepted_steps = t; outcome = a.outcome }) (M.numbers k a g ∙ sym (N.numbers k b h)) t
       ∙ ap (λ (x : Outcome). record { instant = b.instant; accepted_steps = b.accepted_steps; outcome = x }) o
+
+module _ (gs : List SignalKind) (ks : List Kind) (C : Checked gs ks) (few : length ks ≤ 256) where
+  no_calls : (s : State) (v : List ℕ) {ms : List Mark} {ws : List ℕ} → Stands gs ks C few s v ms ws → Follows gs ks C few ms ws s v []
+  no_calls s v S = record { instants = refl; numbers = λ k e h. absurd (none-some e h); counted = λ k e h. absurd (none-some e h); closed_steps = λ k e h. absurd (none-some e h); open_steps = so_far S }
+    where
+      so_far : {ms : List Mark} {ws : List ℕ} → Stands gs ks C few s v ms ws → length v ≤ 4 * length ks
+      so_far (between o L e) = let l = ap length e in omega arith
+      so_far (inside {ms = ms} {word = word} o L r e) = few_steps gs ks C few ms word L r
+
+  follows : (cs : List Asked) (s : State) (v : List ℕ) {ms : List Mark} {ws : List ℕ} → Stands gs ks C few s v ms ws → taken (pasts gs ks s cs) ≡ false → Follows gs ks C few ms ws s v (pasts gs ks s cs)
+  unfolding pasts
+  follows [] s v S t = no_calls s v S
+  follows (c ∷ cs) s v S t =
+      let b = after_call gs ks s c in
+      let u = untaken (past_of gs ks s c) (pasts gs ks b cs) t in
+      let l = by_call gs ks C few s c S u.0 in
+      l.before (pasts gs ks b cs) (follows cs b l.stepped_then l.stands u.1)
+
+  -- what calls on a new count come to is as the model says
+  pub as_model : (cs : List Asked) → taken (pasts gs ks (new_state ks) cs) ≡ false → AsModel gs ks (pasts gs ks (new_state ks) cs)
+  as_model cs t =
+      let F = follows cs (new_state ks) [] (between refl (marks_stay_legal gs ks C).starts refl) t in
+      record { instants = F.instants; numbers = λ k e h. F.numbers k e h ∙ omega arith; counted = F.counted; closed_steps = F.closed_steps; open_steps = F.open_steps }

@@ -21,11 +21,12 @@ use Rattle.rules.proofs.Sums.{same_outcome}
 use Rattle.record.specs.declared.phases.Phase.{Phase}
 use Rattle.record.specs.declared.phases.Phase.TheVariants.{Resting, Open, Over}
 use Rattle.record.specs.Phases.{is_open}
+use Rattle.record.specs.State.{State}
 use Rattle.record.specs.Taking.{taking_refusal}
-use Rattle.count.specs.Calls.{one_more, phase_after, begin_by, begin_refusal, begin_state, step_refusal, step_state, close_refusal, close_state, closing, react_closing, react_state}
+use Rattle.count.specs.Calls.{after, steps_from, one_more, phase_after, begin_by, begin_refusal, begin_state, step_refusal, step_state, close_refusal, close_state, closing, react_closing, react_state}
 use Rattle.count.proofs.Sound.{never, same_phase, after_not_open}
 use Rattle.relay.specs.Asked.{Asked, begin, step, close, react, take_over}
-use Rattle.relay.specs.History.{Past, begins, steps, closes, reacts, takes_over, Standing, if_accepted, moves, past_of, after_call}
+use Rattle.relay.specs.History.{Past, begins, steps, closes, reacts, takes_over, if_accepted, past_of, after_call}
 use Rattle.relay.specs.Promises.{accepted, Ended, ended, left_open}
 use Rattle.relay.proofs.Accepted.{was_ready, none_ready}
 
@@ -52,22 +53,21 @@ module _ (gs : List SignalKind) (ks : List Kind) (C : Checked gs ks) (few : leng
   abbrev Runs : List Mark → ℕ → List ℕ → Config → Type 0
   Runs ms word v x = Run (Ready ks) (stepped ks) (ms, word_set word) v x
 
-  run_legal : {c x : Config} {v : List ℕ} → Run (Ready ks) (stepped ks) c v x → Legal true ks c.0 → Legal true ks x.0
+  pub run_legal : {c x : Config} {v : List ℕ} → Run (Ready ks) (stepped ks) c v x → Legal true ks c.0 → Legal true ks x.0
   run_legal still L = L
   run_legal {c = c} (then {i = i} r t) L = run_legal t ((marks_stay_legal gs ks C).steps c i L r)
 
   pub few_steps : (ms : List Mark) (word : ℕ) {v : List ℕ} {x : Config} → Legal true ks ms → Runs ms word v x → length v ≤ 4 * length ks
   few_steps ms word L r = (instant_ends gs ks C).bounded (ms, word_set word) _ _ L r
 
-  model_runs : (ms : List Mark) (word : ℕ) → Legal true ks ms → Runs ms word (path ks (enough ks) (ms, word_set word)) (settled ks (enough ks) (ms, word_set word))
+  pub model_runs : (ms : List Mark) (word : ℕ) → Legal true ks ms → Runs ms word (path ks (enough ks) (ms, word_set word)) (settled ks (enough ks) (ms, word_set word))
   model_runs ms word L = (instant_ends gs ks C).model_runs (ms, word_set word) L
 
-  -- where the calls stand: between instants, at the marks ms and with no word; or in an open instant that began at the marks ms
-  -- with one word, and whose steps so far lead to the marks and the set that the count has
-  pub data Stands (a : Standing) : List Mark → List ℕ → Type 0 where
-    between : is_open a.state.phase ≡ false → Legal false ks a.state.marks → a.stepped ≡ [] → Stands a a.state.marks []
-    inside : {ms : List Mark} {word : ℕ} → is_open a.state.phase ≡ true → Legal true ks ms → Runs ms word a.stepped (a.state.marks, a.state.present)
-        → a.state.steps ≡ length a.stepped → Stands a ms (word ∷ [])
+  -- where the calls stand, at state s and after the steps v of an open instant: between instants, at the marks ms and with no word;
+  -- or in an open instant that began at the marks ms with one word, and whose steps v lead to the marks and the set that the count has
+  pub data Stands (s : State) (v : List ℕ) : List Mark → List ℕ → Type 0 where
+    between : is_open s.phase ≡ false → Legal false ks s.marks → v ≡ [] → Stands s v s.marks []
+    inside : {ms : List Mark} {word : ℕ} → is_open s.phase ≡ true → Legal true ks ms → Runs ms word v (s.marks, s.present) → s.steps ≡ length v → Stands s v ms (word ∷ [])
 
   -- the ended instants es, after n others, are what the model gives for the words ws from the marks ms on, numbered, of few
   -- steps each; v: the steps of an instant that was left open
@@ -112,74 +112,74 @@ module _ (gs : List SignalKind) (ks : List Kind) (C : Checked gs ks) (few : leng
           open_steps = F.open_steps;
         }
 
-  -- so it is of the calls from a on, which came to ps
-  abbrev pub Follows : List Mark → List ℕ → Standing → List Past → Type 0
-  Follows ms ws a ps = AsModelFrom ms a.state.closed (ws ++ accepted ps) (ended (length ks) ps) (left_open a.stepped ps)
+  -- so it is of the calls from s on, which came to ps, where v was stepped before
+  abbrev pub Follows : List Mark → List ℕ → State → List ℕ → List Past → Type 0
+  Follows ms ws s v ps = AsModelFrom ms s.closed (ws ++ accepted ps) (ended (length ks) v ps) (left_open v ps)
 
-  -- a call came to p and leads from a to b, and it is so of the calls from a on where it is so of those from b on
-  pub record Leads (a b : Standing) (p : Past) (ms : List Mark) (ws : List ℕ) : Type 0 where
+  -- a call came to p and leads from s to t, and it is so of the calls from s on where it is so of those from t on
+  pub record Leads (s : State) (v : List ℕ) (t : State) (p : Past) (ms : List Mark) (ws : List ℕ) : Type 0 where
+    pub stepped_then : List ℕ
     pub marks : List Mark
     pub words : List ℕ
-    pub stands : Stands b marks words
-    pub before : (ps : List Past) → Follows marks words b ps → Follows ms ws a (p ∷ ps)
+    pub stands : Stands t stepped_then marks words
+    pub before : (ps : List Past) → Follows marks words t stepped_then ps → Follows ms ws s v (p ∷ ps)
 
-  by_begin : (a : Standing) (word : ℕ) {ms : List Mark} {ws : List ℕ} → Stands a ms ws → begin_refusal gs a.state word ≡ None
-      → Leads a (record { state = begin_state a.state word; stepped = [] }) (begins word) ms ws
-  by_begin a word (between o L e) h =
-      record { marks = a.state.marks; words = word ∷ []; stands = inside refl ((marks_stay_legal gs ks C).begins a.state.marks L) still refl; before = λ ps F. F }
-  by_begin a word (inside o L r e) h = absurd (never _ o (begun_resting a.state.phase gs a.state.closed word h))
+  module _ (s : State) {v : List ℕ} where
+    by_begin : (word : ℕ) {ms : List Mark} {ws : List ℕ} → Stands s v ms ws → begin_refusal gs s word ≡ None → Leads s v (begin_state s word) (begins word) ms ws
+    by_begin word (between o L e) h =
+        record { stepped_then = []; marks = s.marks; words = word ∷ []; stands = inside refl ((marks_stay_legal gs ks C).begins s.marks L) still refl; before = λ ps F. F }
+    by_begin word (inside o L r e) h = absurd (never _ o (begun_resting s.phase gs s.closed word h))
 
-  by_step : (a : Standing) (k : ℕ) {ms : List Mark} {ws : List ℕ} → Stands a ms ws → step_refusal ks a.state k ≡ None
-      → Leads a (record { state = step_state ks a.state k; stepped = a.stepped ++ (k ∷ []) }) (steps k) ms ws
-  by_step a k (between o L e) h = absurd (never _ (was_ready a.state.phase ks a.state k h).0 o)
-  by_step a k (inside {ms = ms} {word = word} o L r e) h =
-      let l = few_steps ms word L r in
-      record {
-        marks = ms;
-        words = word ∷ [];
-        stands = inside o L (run_push r (was_ready a.state.phase ks a.state k h).1) (one_more_is a.state.steps (omega arith) ∙ omega (arith, length_push a.stepped k));
-        before = λ ps F. F;
-      }
+    by_step : (k : ℕ) {ms : List Mark} {ws : List ℕ} → Stands s v ms ws → step_refusal ks s k ≡ None → Leads s v (step_state ks s k) (steps k) ms ws
+    by_step k (between o L e) h = absurd (never _ (was_ready s.phase ks s k h).0 o)
+    by_step k (inside {ms = ms} {word = word} o L r e) h =
+        let l = few_steps ms word L r in
+        record {
+          stepped_then = v ++ (k ∷ []);
+          marks = ms;
+          words = word ∷ [];
+          stands = inside o L (run_push r (was_ready s.phase ks s k h).1) (one_more_is s.steps (omega arith) ∙ omega (arith, length_push v k));
+          before = λ ps F. F;
+        }
 
-  by_close : (a : Standing) {ms : List Mark} {ws : List ℕ} → Stands a ms ws → close_refusal ks a.state ≡ None
-      → Leads a (record { state = close_state ks a.state; stepped = [] }) (closes (closing gs ks a.state) (close_state ks a.state).marks a.stepped) ms ws
-  by_close a (between o L e) h = absurd (never _ (none_ready a.state.phase ks a.state h).0 o)
-  by_close a (inside {ms = ms} {word = word} o L r e) h =
-      let x : Config = (a.state.marks, a.state.present) in
-      let none = none_below (ready (tree_at ks 0) x.0 x.1) (length ks) (none_ready a.state.phase ks a.state h).1 in
-      let quiet : Quiet (Ready ks) x = λ i y. never _ y (none i (ready_below gs ks C i x.0 x.1 y)) in
-      let same = ap (λ (n : ℕ). record (closed gs ks x a.stepped) { steps = n }) e ∙ same_outcome gs ks C ms word x a.stepped L r quiet in
-      record {
-        marks = (close_state ks a.state).marks;
-        words = [];
-        stands = between (closed_not_open (over (tree_at ks 0) a.state.marks)) ((marks_stay_legal gs ks C).ends x (run_legal r L)) refl;
-        before = λ ps F. one_ended ms a.state.closed word (length a.stepped) _ L same e (accepted ps) (ended (length ks) ps) (left_open [] ps) F;
-      }
+    by_close : {ms : List Mark} {ws : List ℕ} → Stands s v ms ws → close_refusal ks s ≡ None → Leads s v (close_state ks s) (closes (closing gs ks s) (close_state ks s).marks) ms ws
+    by_close (between o L e) h = absurd (never _ (none_ready s.phase ks s h).0 o)
+    by_close (inside {ms = ms} {word = word} o L r e) h =
+        let x : Config = (s.marks, s.present) in
+        let none = none_below (ready (tree_at ks 0) x.0 x.1) (length ks) (none_ready s.phase ks s h).1 in
+        let quiet : Quiet (Ready ks) x = λ i y. never _ y (none i (ready_below gs ks C i x.0 x.1 y)) in
+        let same = ap (λ (n : ℕ). record (closed gs ks x v) { steps = n }) e ∙ same_outcome gs ks C ms word x v L r quiet in
+        record {
+          stepped_then = [];
+          marks = (close_state ks s).marks;
+          words = [];
+          stands = between (closed_not_open (over (tree_at ks 0) s.marks)) ((marks_stay_legal gs ks C).ends x (run_legal r L)) refl;
+          before = λ ps F. one_ended ms s.closed word (length v) _ L same e (accepted ps) (ended (length ks) [] ps) (left_open [] ps) F;
+        }
 
-  by_react : (a : Standing) (word : ℕ) {ms : List Mark} {ws : List ℕ} → Stands a ms ws → begin_refusal gs a.state word ≡ None
-      → Leads a (record { state = react_state gs ks a.state word; stepped = [] })
-      (reacts word (react_closing gs ks a.state word) (react_state gs ks a.state word).marks (path ks (enough ks) (a.state.marks, word_set word))) ms ws
-  by_react a word (between o L e) h =
-      let L' = (marks_stay_legal gs ks C).begins a.state.marks L in
-      let x : Config = settled ks (enough ks) (a.state.marks, word_set word) in
-      record {
-        marks = (react_state gs ks a.state word).marks;
-        words = [];
-        stands = between (after_not_open (over (tree_at ks 0) x.0)) ((marks_stay_legal gs ks C).ends x (run_legal (model_runs a.state.marks word L') L')) refl;
-        before = λ ps F. one_ended a.state.marks a.state.closed word (length (path ks (enough ks) (a.state.marks, word_set word))) (instant gs ks a.state.marks word) L' refl refl (accepted ps) (ended (length ks) ps) (left_open [] ps) F;
-      }
-  by_react a word (inside o L r e) h = absurd (never _ o (begun_resting a.state.phase gs a.state.closed word h))
+    by_react : (word : ℕ) {ms : List Mark} {ws : List ℕ} → Stands s v ms ws → begin_refusal gs s word ≡ None
+        → Leads s v (react_state gs ks s word) (reacts word (react_closing gs ks s word) (react_state gs ks s word).marks (steps_from ks (begin_state s word))) ms ws
+    by_react word (between o L e) h =
+        let L' = (marks_stay_legal gs ks C).begins s.marks L in
+        let x : Config = settled ks (enough ks) (s.marks, word_set word) in
+        record {
+          stepped_then = [];
+          marks = (react_state gs ks s word).marks;
+          words = [];
+          stands = between (after_not_open (over (tree_at ks 0) x.0)) ((marks_stay_legal gs ks C).ends x (run_legal (model_runs s.marks word L') L')) refl;
+          before = λ ps F. one_ended s.marks s.closed word (length (steps_from ks (begin_state s word))) (instant gs ks s.marks word) L' refl refl (accepted ps) (ended (length ks) [] ps) (left_open [] ps) F;
+        }
+    by_react word (inside o L r e) h = absurd (never _ o (begun_resting s.phase gs s.closed word h))
 
-  -- a refused call leads nowhere else
-  unless_refused : (a b : Standing) (p : Past) (o : Option Refusal) {ms : List Mark} {ws : List ℕ} → Stands a ms ws → (o ≡ None → Leads a b p ms ws)
-      → Leads a (moves o a b) (if_accepted o p) ms ws
-  unless_refused a b p None S f = f refl
-  unless_refused a b p (Some r) {ms = ms} {ws = ws} S f = record { marks = ms; words = ws; stands = S; before = λ ps F. F }
+    -- a refused call leads nowhere else
+    unless_refused : (t : State) (p : Past) (o : Option Refusal) {ms : List Mark} {ws : List ℕ} → Stands s v ms ws → (o ≡ None → Leads s v t p ms ws)
+        → Leads s v (after o s t) (if_accepted o p) ms ws
+    unless_refused t p None S f = f refl
+    unless_refused t p (Some r) {ms = ms} {ws = ws} S f = record { stepped_then = v; marks = ms; words = ws; stands = S; before = λ ps F. F }
 
-  pub by_call : (a : Standing) (c : Asked) {ms : List Mark} {ws : List ℕ} → Stands a ms ws → past_of gs ks a c ≢ takes_over
-      → Leads a (after_call gs ks a c) (past_of gs ks a c) ms ws
-  by_call a (begin word) S u = unless_refused a _ _ (begin_refusal gs a.state word) S (by_begin a word S)
-  by_call a (step k) S u = unless_refused a _ _ (step_refusal ks a.state k) S (by_step a k S)
-  by_call a close S u = unless_refused a _ _ (close_refusal ks a.state) S (by_close a S)
-  by_call a (react word) S u = unless_refused a _ _ (begin_refusal gs a.state word) S (by_react a word S)
-  by_call a (take_over bytes) S u = unless_refused a _ _ (taking_refusal gs ks bytes) S (λ h. absurd (u (ap (λ (o : Option Refusal). if_accepted o takes_over) h)))
+    pub by_call : (c : Asked) {ms : List Mark} {ws : List ℕ} → Stands s v ms ws → past_of gs ks s c ≢ takes_over → Leads s v (after_call gs ks s c) (past_of gs ks s c) ms ws
+    by_call (begin word) S u = unless_refused _ _ (begin_refusal gs s word) S (by_begin word S)
+    by_call (step k) S u = unless_refused _ _ (step_refusal ks s k) S (by_step k S)
+    by_call close S u = unless_refused _ _ (close_refusal ks s) S (by_close S)
+    by_call (react word) S u = unless_refused _ _ (begin_refusal gs s word) S (by_react word S)
+    by_call (take_over bytes) S u = unless_refused _ _ (taking_refusal gs ks bytes) S (λ h. absurd (u (ap (λ (o : Option Refusal). if_accepted o takes_over) h)))

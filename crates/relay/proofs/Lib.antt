@@ -1,5 +1,9 @@
 pub mod Accepted
 pub mod Instants
 pub mod Histories
-pub mod Carried
-pub mod EveryRoutine
+pub mod Reacting
+pub mod Telling
+pub mod Reached
+pub mod Resumed
+pub mod Passing
+pub mod Alike

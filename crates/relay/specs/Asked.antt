@@ -1,5 +1,5 @@
 -- what can be asked of a count, as the calls of the code say it
-use Rattle.std.specs.Prelude.{ℕ, List}
+use Rattle.std.specs.Prelude.{ℕ, ◌<◌, List, [], ◌∷◌, slice_index}
 use Rattle.relay.specs.declared.calls.Call.{Call}
 use Rattle.relay.specs.declared.calls.Call.TheVariants.{Begin, Step, Close, React, TakeOver}
 
@@ -16,3 +16,15 @@ asked (Step k) = step k
 asked Close = close
 asked (React word) = react word
 asked (TakeOver bytes) = take_over bytes.now
+
+-- the records among the calls are of bytes
+abbrev pub of_bytes : Asked → Type 0
+of_bytes (begin word) = Unit {0}
+of_bytes (step k) = Unit {0}
+of_bytes close = Unit {0}
+of_bytes (react word) = Unit {0}
+of_bytes (take_over bytes) = (i : ℕ) → slice_index bytes i < 256
+
+unfoldable pub OfBytes : List Asked → Type 0
+OfBytes [] = Unit {0}
+OfBytes (c ∷ cs) = of_bytes c × OfBytes cs

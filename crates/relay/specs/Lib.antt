@@ -1,4 +1,6 @@
 pub mod Asked
+pub mod Heard
 pub mod History
 pub mod Promises
+pub mod Relays
 pub mod View

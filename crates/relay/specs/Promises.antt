@@ -1,4 +1,4 @@
--- what is shown of every history
+-- what is shown of what calls come to
 use Rattle.std.specs.Prelude.{◌≡◌, ℕ, ◌+◌, ◌*◌, ◌≤◌, Bool, true, false, List, [], ◌∷◌, ◌++◌, length, take, map, Some, slice_get}
 use Rattle.std.proofs.Math.Decide.{ℕ_discrete}
 use Rattle.routine.specs.declared.kinds.Kind.{Kind}
@@ -7,15 +7,14 @@ use Rattle.rules.specs.Rules.{Mark}
 use Rattle.rules.specs.Runs.{count}
 use Rattle.rules.specs.Model.{Outcome, each_below, model}
 use Rattle.count.specs.declared.answers.Closing.{Closing}
-use Rattle.relay.specs.Asked.{Asked}
-use Rattle.relay.specs.History.{Past, begins, steps, closes, reacts, takes_over, refuses, history}
+use Rattle.relay.specs.History.{Past, begins, steps, closes, reacts, takes_over, refuses}
 
 -- a take over was accepted
 abbrev pub taken : List Past → Bool
 taken [] = false
 taken (begins w ∷ ps) = taken ps
 taken (steps k ∷ ps) = taken ps
-taken (closes c ms v ∷ ps) = taken ps
+taken (closes c ms ∷ ps) = taken ps
 taken (reacts w c ms v ∷ ps) = taken ps
 taken (takes_over ∷ ps) = true
 taken (refuses r ∷ ps) = taken ps
@@ -25,7 +24,7 @@ abbrev pub accepted : List Past → List ℕ
 accepted [] = []
 accepted (begins w ∷ ps) = w ∷ accepted ps
 accepted (steps k ∷ ps) = accepted ps
-accepted (closes c ms v ∷ ps) = accepted ps
+accepted (closes c ms ∷ ps) = accepted ps
 accepted (reacts w c ms v ∷ ps) = w ∷ accepted ps
 accepted (takes_over ∷ ps) = accepted ps
 accepted (refuses r ∷ ps) = accepted ps
@@ -37,6 +36,7 @@ pub record Ended : Type 0 where
   pub accepted_steps : ℕ
   pub outcome : Outcome
 
+-- by its closing, its marks and the statements v that were stepped in it
 abbrev pub ended_as : ℕ → Closing → List Mark → List ℕ → Ended
 ended_as n c ms v =
     record {
@@ -45,51 +45,38 @@ ended_as n c ms v =
       outcome = record { outputs = c.outputs; status = c.status; times = each_below (λ i. count ℕ_discrete i v) n; steps = c.steps; marks = ms };
     }
 
--- the closed instants
-abbrev pub ended : ℕ → List Past → List Ended
-ended n [] = []
-ended n (begins w ∷ ps) = ended n ps
-ended n (steps k ∷ ps) = ended n ps
-ended n (closes c ms v ∷ ps) = ended_as n c ms v ∷ ended n ps
-ended n (reacts w c ms v ∷ ps) = ended_as n c ms v ∷ ended n ps
-ended n (takes_over ∷ ps) = ended n ps
-ended n (refuses r ∷ ps) = ended n ps
+-- the closed instants, where v was stepped before in an instant that is open
+abbrev pub ended : ℕ → List ℕ → List Past → List Ended
+ended n v [] = []
+ended n v (begins w ∷ ps) = ended n [] ps
+ended n v (steps k ∷ ps) = ended n (v ++ (k ∷ [])) ps
+ended n v (closes c ms ∷ ps) = ended_as n c ms v ∷ ended n [] ps
+ended n v (reacts w c ms u ∷ ps) = ended_as n c ms u ∷ ended n [] ps
+ended n v (takes_over ∷ ps) = ended n [] ps
+ended n v (refuses r ∷ ps) = ended n v ps
 
--- the accepted steps after the last word, where no close came after them
+-- the statements that were stepped in the instant that is left open, if one is
 abbrev pub left_open : List ℕ → List Past → List ℕ
 left_open v [] = v
 left_open v (begins w ∷ ps) = left_open [] ps
 left_open v (steps k ∷ ps) = left_open (v ++ (k ∷ [])) ps
-left_open v (closes c ms w ∷ ps) = left_open [] ps
+left_open v (closes c ms ∷ ps) = left_open [] ps
 left_open v (reacts w c ms u ∷ ps) = left_open [] ps
 left_open v (takes_over ∷ ps) = left_open [] ps
 left_open v (refuses r ∷ ps) = left_open v ps
 
--- (of a routine)
-module _ (gs : List SignalKind) (ks : List Kind) where
-  -- the k-th closed instant has what the plain model gives for the k-th accepted word, in whatever order its statements were
-  -- stepped: outputs, status, how often each statement was stepped, steps, remaining marks; and no instant has more than 4
-  -- accepted steps for each statement
-  pub record AsModel (ps : List Past) : Type 0 where
-    pub instants : map (λ (e : Ended). e.outcome) (ended (length ks) ps) ≡ take (length (ended (length ks) ps)) (model gs ks (accepted ps))
-    pub numbers : (k : ℕ) (e : Ended) → slice_get (ended (length ks) ps) k ≡ Some e → e.instant ≡ k + 1
-    pub counted : (k : ℕ) (e : Ended) → slice_get (ended (length ks) ps) k ≡ Some e → e.outcome.steps ≡ e.accepted_steps
-    pub closed_steps : (k : ℕ) (e : Ended) → slice_get (ended (length ks) ps) k ≡ Some e → e.accepted_steps ≤ 4 * length ks
-    pub open_steps : length (left_open [] ps) ≤ 4 * length ks
+-- the k-th closed instant has what the plain model gives for the k-th accepted word, in whatever order its statements were
+-- stepped: outputs, status, how often each statement was stepped, steps, remaining marks; they are numbered 1, 2, 3 ..; and no
+-- instant has more than 4 accepted steps for each statement
+pub record AsModel (gs : List SignalKind) (ks : List Kind) (ps : List Past) : Type 0 where
+  pub instants : map (λ (e : Ended). e.outcome) (ended (length ks) [] ps) ≡ take (length (ended (length ks) [] ps)) (model gs ks (accepted ps))
+  pub numbers : (k : ℕ) (e : Ended) → slice_get (ended (length ks) [] ps) k ≡ Some e → e.instant ≡ k + 1
+  pub counted : (k : ℕ) (e : Ended) → slice_get (ended (length ks) [] ps) k ≡ Some e → e.outcome.steps ≡ e.accepted_steps
+  pub closed_steps : (k : ℕ) (e : Ended) → slice_get (ended (length ks) [] ps) k ≡ Some e → e.accepted_steps ≤ 4 * length ks
+  pub open_steps : length (left_open [] ps) ≤ 4 * length ks
 
-  -- every history in which each take over is refused
-  abbrev pub AlwaysAsModel : Type 0
-  AlwaysAsModel = (cs ds : List Asked) → taken (history gs ks cs ds) ≡ false → AsModel (history gs ks cs ds)
-
-  -- a history of the routine, by calls in any order, in which each take over was refused
-  pub record Happened (ps : List Past) : Type 0 where
-    pub before : List Asked
-    pub later : List Asked
-    pub is : ps ≡ history gs ks before later
-    pub untaken : taken ps ≡ false
-
-  -- where two histories of one routine have the same first words, the instants of those words end alike in both
-  abbrev pub SameWordsSameInstants : Type 0
-  SameWordsSameInstants =
-      (ps qs : List Past) → Happened ps → Happened qs → (k : ℕ) → take (k + 1) (accepted ps) ≡ take (k + 1) (accepted qs)
-      → (a b : Ended) → slice_get (ended (length ks) ps) k ≡ Some a → slice_get (ended (length ks) qs) k ≡ Some b → a ≡ b
+-- where the first words are equal, the instants of those words end alike
+abbrev pub SameInstants : ℕ → List Past → List Past → Type 0
+SameInstants n ps qs =
+    (k : ℕ) → take (k + 1) (accepted ps) ≡ take (k + 1) (accepted qs)
+    → (a b : Ended) → slice_get (ended n [] ps) k ≡ Some a → slice_get (ended n [] qs) k ≡ Some b → a ≡ b

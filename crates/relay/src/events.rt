@@ -1,7 +1,7 @@
 use count::Closing;
 use routine::{Mark, Refusal};
 
-// What a call came to.
+// What a call came to, as it is kept.
 #[derive(Debug, Drop)]
 pub enum Event {
     Begun {
@@ -10,17 +10,17 @@ pub enum Event {
     Stepped {
         statement: usize,
     },
-    // The closing, the marks that remain, and the statements that were stepped in the instant, in their order.
+    // The closing, and the marks that remain.
     Closed {
         closing: Closing,
         marks: Vec<Mark>,
-        stepped: Vec<usize>,
     },
-    // Which statements a react steps is its own affair.
+    // And the statements that the react stepped, in their order.
     Reacted {
         word: u64,
         closing: Closing,
         marks: Vec<Mark>,
+        stepped: Vec<usize>,
     },
     TakenOver,
     Refused {

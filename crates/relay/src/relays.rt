@@ -1,54 +1,109 @@
-ghost use Rattle.std.specs.Prelude.{map, IfOk};
+ghost use Rattle.std.specs.Prelude.{map, length};
 ghost use Rattle.routine.specs.View.{kinds_of, signals_of};
+ghost use Rattle.count.specs.CountView.{kinds_of as seen_kinds, signals_of as seen_signals, state_of};
 ghost use Rattle.relay.specs.Asked.{asked};
-ghost use Rattle.relay.specs.Promises.{AlwaysAsModel, SameWordsSameInstants};
-ghost use Rattle.relay.specs.View.{Relays};
+ghost use Rattle.relay.specs.Heard.{ToldAsModel, ToldAlike};
+ghost use Rattle.relay.specs.History.{after_calls};
+ghost use Rattle.relay.specs.Relays.{HandsOn, Relays, LeftAs, at_last};
 
 use crate::calls::Call;
-use crate::counters::Counter;
-use crate::events::Event;
-use count::{Count, change_board};
+use crate::listeners::Listener;
+use crate::resumes::resume;
+use crate::tellings::carry_out_all;
+use count::{Count, Released};
 use routine::Routine;
 use signals::Board;
-use std::alloc::{AllocError, Global};
 
-// What a count came to on two boards: the events of the calls on the first, the record that was handed over, and the events of
-// the calls on the second.
+// Two boards, and the calls that a count of a relay is to carry out on each.
 #[derive(Debug, Drop)]
-pub struct Relayed {
-    pub before: Vec<Event>,
-    pub handed: [u8; 279],
-    pub later: Vec<Event>,
+pub struct Plan<'a, A, B> {
+    pub first: A,
+    pub second: B,
+    pub before: &'a [Call<'a>],
+    pub later: &'a [Call<'a>],
 }
 
-// Carries out the first calls on a new count, hands it over to the other board by its record, and carries out the later calls.
-#[tactic(auto, using(crate::proofs::EveryRoutine::has_law))]
-pub fn relay<A: Board + Drop, B: Board + Drop>(
-    heap: Global,
-    routine: Routine,
-    first: A,
+// What a relay leaves: both boards, the record that was handed over, and the one that says where the count was left.
+#[derive(Debug, Drop)]
+pub struct Relayed<A, B> {
+    pub first: A,
+    pub second: B,
+    pub handed: [u8; 279],
+    pub left: [u8; 279],
+}
+
+// Hands the count over to the other board by its record, and resumes there with the later calls.
+fn hand_on<A: Board, B: Board, L: Listener>(
+    count: Count<A>,
     second: B,
-    before: &[Call<'_>],
     later: &[Call<'_>],
-) -> Result<Relayed, AllocError>
-    ensures tells { IfOk result (Relays (signals_of routine.table) (kinds_of routine.table) (map asked before.now) (map asked later.now)) }
-    ensures model { AlwaysAsModel (signals_of routine.table) (kinds_of routine.table) }
-    ensures law { SameWordsSameInstants (signals_of routine.table) (kinds_of routine.table) }
+    listener: &mut L,
+) -> (Relayed<A, B>, Routine)
+    ensures tells { HandsOn A.present B.present (seen_signals count) (seen_kinds count) (state_of A.present count) (map asked later.now) (L.ear listener.old) (L.ear listener.new) result.0 }
+    ensures routine { LeftAs (seen_signals count) (seen_kinds count) (after_calls (seen_signals count) (seen_kinds count) (state_of A.present count) (map asked later.now)).marks result.1 }
 {
-    let mut counter = Counter {
-        count: Count::new(routine, first),
-        stepped: Vec::new(heap),
-    };
-    let before = counter.run(heap, before)?;
-    let (count, handed) = change_board(counter.count, second);
-    let mut counter = Counter {
-        count,
-        stepped: counter.stepped,
-    };
-    let later = counter.run(heap, later)?;
-    Ok(Relayed {
-        before,
+    let mut handed = [0; 279];
+    let released = count.hand_over(&mut handed);
+    let first = released.board;
+    let mut count = Count::new(released.routine, second);
+    resume(&mut count, &[], &handed, later, listener);
+    let mut left = [0; 279];
+    let released = count.hand_over(&mut left);
+    let relayed = Relayed {
+        first,
+        second: released.board,
         handed,
-        later,
-    })
+        left,
+    };
+    (relayed, released.routine)
+}
+
+// Carries out the first calls on a new count, hands it over to the other board by its record, and resumes there with the later
+// calls. What the calls come to is told to the listeners, one on each board; nothing is allocated. The routine is given back
+// beside what is left.
+pub fn relay<A: Board, B: Board, K: Listener, L: Listener>(
+    routine: Routine,
+    plan: Plan<'_, A, B>,
+    one: &mut K,
+    other: &mut L,
+) -> (Relayed<A, B>, Routine)
+    ensures tells { Relays A.present B.present (signals_of routine.table) (kinds_of routine.table) (map asked plan.entry.before.now) (map asked plan.entry.later.now) (K.ear one.old) (K.ear one.new) (L.ear other.old) (L.ear other.new) result.0 }
+    ensures routine { LeftAs (signals_of routine.table) (kinds_of routine.table) (at_last (signals_of routine.table) (kinds_of routine.table) (map asked plan.entry.before.now) (map asked plan.entry.later.now)).marks result.1 }
+    ensures model { ToldAsModel (signals_of routine.table) (kinds_of routine.table) (K.ear one.old) (K.ear one.new) (L.ear other.old) (L.ear other.new) }
+{
+    let mut count = Count::new(routine, plan.first);
+    carry_out_all(&mut count, plan.before, one);
+    hand_on(count, plan.second, plan.later, other)
+}
+
+// Two relays of one routine, each on two boards of its own and with two lists of its own: the closed instants that are told of
+// the words that both accept alike are the same.
+pub fn relay_twice<
+    A: Board,
+    B: Board,
+    C: Board,
+    D: Board,
+    K: Listener,
+    L: Listener,
+    M: Listener,
+    N: Listener,
+>(
+    routine: Routine,
+    plan: Plan<'_, A, B>,
+    again: Plan<'_, C, D>,
+    k: &mut K,
+    l: &mut L,
+    m: &mut M,
+    n: &mut N,
+) -> (Relayed<A, B>, Relayed<C, D>, Routine)
+    ensures one { Relays A.present B.present (signals_of routine.table) (kinds_of routine.table) (map asked plan.entry.before.now) (map asked plan.entry.later.now) (K.ear k.old) (K.ear k.new) (L.ear l.old) (L.ear l.new) result.0 }
+    ensures other { Relays C.present D.present (signals_of routine.table) (kinds_of routine.table) (map asked again.entry.before.now) (map asked again.entry.later.now) (M.ear m.old) (M.ear m.new) (N.ear n.old) (N.ear n.new) result.1 }
+    ensures law { ToldAlike (length (kinds_of routine.table)) (K.ear k.old) (K.ear k.new) (L.ear l.old) (L.ear l.new) (M.ear m.old) (M.ear m.new) (N.ear n.old) (N.ear n.new) }
+    ensures model { ToldAsModel (signals_of routine.table) (kinds_of routine.table) (K.ear k.old) (K.ear k.new) (L.ear l.old) (L.ear l.new) }
+    ensures other_model { ToldAsModel (signals_of routine.table) (kinds_of routine.table) (M.ear m.old) (M.ear m.new) (N.ear n.old) (N.ear n.new) }
+    ensures routine { LeftAs (signals_of routine.table) (kinds_of routine.table) (at_last (signals_of routine.table) (kinds_of routine.table) (map asked again.entry.before.now) (map asked again.entry.later.now)).marks result.2 }
+{
+    let (relayed, routine) = relay(routine, plan, k, l);
+    let (once_more, routine) = relay(routine, again, m, n);
+    (relayed, once_more, routine)
 }

@@ -17,7 +17,7 @@ struct Kept {
 }
 
 impl Tracer for Kept {
-    ghost trace = { λ k. record { steps = vec_items k.steps; lost = k.lost } };
+    ghost trace = { λ k. record { steps = vec_items k.steps; lost = k.lost; room = 0 } };
 
     fn step(&mut self, statement: usize) {
         if self.steps.push(statement).is_err() {

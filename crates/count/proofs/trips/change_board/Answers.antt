@@ -1,4 +1,6 @@
-use Rattle.std.proofs.Common.{◌≡◌, ◌<◌, length, ◌∙◌, rules}
+use Rattle.std.proofs.Common.{◌≡◌, ◌<◌, length, ap, ◌∙◌, rules}
+use Rattle.routine.specs.declared.checked.Routine.{Routine}
+use Rattle.routine.specs.View.{kinds_of as kinds_read, signals_of as signals_read}
 use Rattle.signals.specs.declared.board.Board.{Ghosts}
 use Rattle.count.specs.declared.counts.Count.{Count}
 use Rattle.record.specs.Sound.{Sound}
@@ -39,4 +41,4 @@ returns-clause-state g c =
     let n = c.new-count.ensures in
     let h = c.hand_over-routine.ensures in
     comes_back (signals_of d) _ (kinds_of d) _ (state_of present d) _ _ _ (few_kinds d.rows.routine.table) (few_signals d.rows)
-    (sound g.met.A.Board.size d (search rules) (search rules)) h.record (n.signals ∙ h.signals) (n.kinds ∙ h.kinds) c.take_over.ensures.leaves
+    (sound g.met.A.Board.size d (search rules) (search rules)) h.record (n.signals ∙ ap (λ (r : Routine). signals_read r.table) h.routine) (n.kinds ∙ ap (λ (r : Routine). kinds_read r.table) h.routine) c.take_over.ensures.leaves

@@ -1,0 +1,110 @@
+-- a count that is handed over and goes on elsewhere
+use Rattle.std.proofs.Common.{◌≡◌, ℕ, ◌<◌, ◌≤◌, Bool, List, [], ◌∷◌, ◌++◌, length, vec_items, sym, ap, ap₂, ◌∙◌, subst}
+use Rattle.routine.specs.declared.kinds.Kind.{Kind}
+use Rattle.routine.specs.declared.kinds.Mark.{Mark}
+use Rattle.routine.specs.declared.kinds.SignalKind.{SignalKind}
+use Rattle.routine.specs.declared.checked.Routine.{Routine}
+use Rattle.routine.specs.Kinds.{marks}
+use Rattle.routine.specs.View.{kinds_of as kinds_read, signals_of as signals_read}
+use Rattle.signals.specs.declared.board.Board.{Ghosts}
+use Rattle.record.specs.Phases.{is_open}
+use Rattle.record.specs.State.{State}
+use Rattle.record.specs.Sound.{Sound}
+use Rattle.record.specs.Record.{record_of}
+use Rattle.count.specs.declared.counts.Count.{Count}
+use Rattle.count.specs.declared.records.Released.{Released}
+use Rattle.count.specs.CountView.{kinds_of, signals_of, state_of, SameRoutine}
+use Rattle.count.specs.Calls.{new_state}
+use Rattle.count.proofs.Sound.{legal}
+use Rattle.relay.specs.Asked.{Asked, take_over}
+use Rattle.relay.specs.Heard.{Ear, Grows, TellsAll}
+use Rattle.relay.specs.History.{takes_over, pasts, after_calls}
+use Rattle.relay.specs.Relays.{HandsOn, Relays, LeftAs, at_last}
+use Rattle.relay.specs.declared.relays.Relayed.{Relayed}
+use Rattle.relay.proofs.Resumed.{grows_as, from_sound, left_from_sound}
+
+-- a count's state is one of a count
+module _ {B : Type 0} {G : Ghosts B} (size : (b : B) → length (G.present b) ≡ 64) (d : Count B G) (closed : d.closed < 4294967296) (steps : d.steps < 65536) where
+  pub sound_count : Sound (signals_of d) (kinds_of d) (state_of G.present d)
+  sound_count =
+      record {
+        legal = legal d.rows (is_open d.phase) d.legal;
+        finished = d.finished;
+        calm = d.calm;
+        still = d.still;
+        within = d.within;
+        sized = size d.board;
+        room = d.room;
+        closed_fits = closed;
+        steps_fit = steps;
+      }
+
+-- (of a routine) a state that is handed on by its record, to a count of the same routine that is at u
+module _ (gs : List SignalKind) (ks : List Kind) (few : length ks ≤ 256) (some : length gs ≤ 64) (s : State) (S : Sound gs ks s) (bytes : List ℕ)
+    (handed : bytes ≡ record_of (length gs) (length ks) s) (ds : List Asked) where
+  module _ {B : Type 0} {G : Ghosts B} (present : B → List Bool) (c d : Count B G) (e : signals_of c ≡ gs) (f : kinds_of c ≡ ks) (old new : Ear)
+      (T : TellsAll present c d ([] ++ (take_over bytes ∷ ds)) old new) where
+    pub later_told : Grows old new (takes_over ∷ pasts gs ks s ds)
+    unfolding pasts
+    later_told =
+        let u = state_of present c in
+        from_sound gs ks u [] bytes ds old new
+        (grows_as old new _ _ T.tells (ap₂ (λ (x : List SignalKind) (y : List Kind). pasts x y u (take_over bytes ∷ ds)) e f)) few some s S handed
+
+    pub left_at : state_of present d ≡ after_calls gs ks s ds
+    left_at =
+        let u = state_of present c in
+        T.leaves ∙ ap₂ (λ (x : List SignalKind) (y : List Kind). after_calls x y u (take_over bytes ∷ ds)) e f
+        ∙ left_from_sound gs ks few some s u S bytes handed ds
+
+    pub left_signals : signals_of d ≡ gs
+    left_signals = T.routine.signals ∙ e
+
+    pub left_kinds : kinds_of d ≡ ks
+    left_kinds = T.routine.kinds ∙ f
+
+    pub left_record : (last : List ℕ) → last ≡ record_of (length (signals_of d)) (length (kinds_of d)) (state_of present d)
+        → last ≡ record_of (length gs) (length ks) (after_calls gs ks s ds)
+    left_record last e =
+        e ∙ ap₂ (λ (x : List SignalKind) (y : List Kind). record_of (length x) (length y) (state_of present d)) left_signals left_kinds
+        ∙ ap (record_of (length gs) (length ks)) left_at
+
+    pub left_routine : (r : Routine) → r ≡ d.rows.routine → LeftAs gs ks (after_calls gs ks s ds).marks r
+    left_routine r e =
+        record {
+          signals = ap (λ (x : Routine). signals_read x.table) e ∙ left_signals;
+          kinds = ap (λ (x : Routine). kinds_read x.table) e ∙ left_kinds;
+          marks = ap (λ (x : Routine). marks (vec_items x.table.statements)) e ∙ ap (λ (x : State). x.marks) left_at;
+        }
+
+-- a relay: the calls on the first board led to s
+module _ (gs : List SignalKind) (ks : List Kind) (cs ds : List Asked) where
+  pub before_told : (xs : List SignalKind) (ys : List Kind) (s : State) (old new : Ear) → xs ≡ gs → ys ≡ ks → s ≡ new_state ks → Grows old new (pasts xs ys s cs)
+      → Grows old new (pasts gs ks (new_state ks) cs)
+  before_told xs ys s old new e f i h =
+      grows_as old new _ _ h (ap₂ (λ (x : List SignalKind) (y : List Kind). pasts x y s cs) e f ∙ ap (λ (q : State). pasts gs ks q cs) i)
+
+  pub midway_is : (xs : List SignalKind) (ys : List Kind) (s t : State) → xs ≡ gs → ys ≡ ks → s ≡ new_state ks → t ≡ after_calls xs ys s cs → t ≡ after_calls gs ks (new_state ks) cs
+  midway_is xs ys s t e f i h =
+      h ∙ ap₂ (λ (x : List SignalKind) (y : List Kind). after_calls x y s cs) e f ∙ ap (λ (q : State). after_calls gs ks q cs) i
+
+  pub hands_on_as : {A B : Type 0} (first : A → List Bool) (second : B → List Bool) (xs : List SignalKind) (ys : List Kind) (t u : State) (old new : Ear) (r : Relayed A B)
+      → xs ≡ gs → ys ≡ ks → t ≡ u → HandsOn first second xs ys t ds old new r → HandsOn first second gs ks u ds old new r
+  hands_on_as first second xs ys t u old new r e f i h =
+      subst (λ (q : State). HandsOn first second gs ks q ds old new r) i
+      (subst (λ (y : List Kind). HandsOn first second gs y t ds old new r) f (subst (λ (x : List SignalKind). HandsOn first second x ys t ds old new r) e h))
+
+  pub left_as : (xs : List SignalKind) (ys : List Kind) (t u : State) (r : Routine) → xs ≡ gs → ys ≡ ks → t ≡ u → LeftAs xs ys (after_calls xs ys t ds).marks r
+      → LeftAs gs ks (after_calls gs ks u ds).marks r
+  left_as xs ys t u r e f i h =
+      record {
+        signals = h.signals ∙ e;
+        kinds = h.kinds ∙ f;
+        marks = h.marks ∙ ap (λ (q : State). q.marks) (ap₂ (λ (x : List SignalKind) (y : List Kind). after_calls x y t ds) e f ∙ ap (λ (q : State). after_calls gs ks q ds) i);
+      }
+
+-- the second relay has the routine that the first gave back
+pub same_relay : {A B : Type 0} (first : A → List Bool) (second : B → List Bool) (gs xs : List SignalKind) (ks ys : List Kind) (cs ds : List Asked) (old new old' new' : Ear) (r : Relayed A B)
+    → xs ≡ gs → ys ≡ ks → Relays first second xs ys cs ds old new old' new' r → Relays first second gs ks cs ds old new old' new' r
+same_relay first second gs xs ks ys cs ds old new old' new' r e f P =
+    subst (λ (y : List Kind). Relays first second gs y cs ds old new old' new' r) f (subst (λ (x : List SignalKind). Relays first second x ys cs ds old new old' new' r) e P)
