@@ -11,8 +11,8 @@ use Rattle.routine.specs.Meaning.{check_of}
 use Rattle.routine.proofs.Searches.{none_below}
 use Rattle.rules.specs.declared.status.Status.{Status}
 use Rattle.rules.specs.Model.{settled, path, model}
-use Rattle.count.specs.Calls.{first_stray}
-use Rattle.relay.specs.History.{Past, pasts, start}
+use Rattle.count.specs.Calls.{new_state, first_stray}
+use Rattle.relay.specs.History.{Past, pasts}
 use Rattle.worked.specs.Examples.{Example, firsts, seconds, Each, told, Holds}
 use Rattle.worked.specs.Worked.{examples}
 
@@ -40,7 +40,7 @@ found x =
       refusal = check_of x.signals x.kinds;
       strays = map (first_stray x.signals) (firsts x.words);
       words = map told (model x.signals x.kinds (firsts x.words));
-      calls = pasts x.signals x.kinds (start x.kinds) (firsts x.calls);
+      calls = pasts x.signals x.kinds (new_state x.kinds) (firsts x.calls);
     }
 
 abbrev wanted : Example → Computed

@@ -7,9 +7,9 @@ use Rattle.routine.specs.Layout.{Formed}
 use Rattle.routine.specs.Meaning.{check_of}
 use Rattle.rules.specs.declared.status.Status.{Status}
 use Rattle.rules.specs.Model.{Outcome, model}
-use Rattle.count.specs.Calls.{first_stray}
+use Rattle.count.specs.Calls.{new_state, first_stray}
 use Rattle.relay.specs.Asked.{Asked}
-use Rattle.relay.specs.History.{Past, start, pasts}
+use Rattle.relay.specs.History.{Past, pasts}
 use Rattle.worked.specs.declared.worked.Summary.{Summary}
 
 pub record Example : Type 0 where
@@ -49,7 +49,7 @@ pub record Holds (x : Example) : Type 0 where
   -- each word comes to what is said beside it, by the plain model
   pub words : map told (model x.signals x.kinds (firsts x.words)) ≡ seconds x.words
   -- and each call, by the history of the calls
-  pub calls : pasts x.signals x.kinds (start x.kinds) (firsts x.calls) ≡ seconds x.calls
+  pub calls : pasts x.signals x.kinds (new_state x.kinds) (firsts x.calls) ≡ seconds x.calls
 
 -- the model's outcomes, a line for each instant
 abbrev pub lines_from : ℕ → ℕ → List Outcome → List Summary

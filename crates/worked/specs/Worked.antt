@@ -20,7 +20,7 @@ nothing_at_all =
       words = (0, (0, T, 0)) ∷ [];
       calls =
           (begin 0, begins 0)
-          ∷ (close, closes (record { instant = 1; outputs = 0; status = T; steps = 0 }) (done ∷ []) [])
+          ∷ (close, closes (record { instant = 1; outputs = 0; status = T; steps = 0 }) (done ∷ []))
           ∷ (begin 0, refuses AlreadyOver)
           ∷ [];
     }
@@ -111,7 +111,7 @@ side_by_side =
           ∷ (step 2, refuses (NotReady 2))
           ∷ (step 1, steps 1)
           ∷ (step 2, steps 2)
-          ∷ (close, closes (record { instant = 1; outputs = 1; status = T; steps = 2 }) (underway ∷ done ∷ done ∷ []) (1 ∷ 2 ∷ []))
+          ∷ (close, closes (record { instant = 1; outputs = 1; status = T; steps = 2 }) (underway ∷ done ∷ done ∷ []))
           ∷ [];
     }
 
