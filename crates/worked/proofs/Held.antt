@@ -74,8 +74,8 @@ holds x e =
     let n = ap (λ (c : Computed). c.a_statement) e in
     let m = ap (λ (c : Computed). c.few_statements) e in
     record {
-      signals = grind (arith, g);
-      statements = (grind (arith, n), grind (arith, m));
+      few_signals = grind (arith, g);
+      few_statements = (grind (arith, n), grind (arith, m));
       formed = formed x (ap (λ (c : Computed). c.misfit) e);
       checked = ap (λ (c : Computed). c.refusal) e;
       inputs = none_each (first_stray x.signals) (firsts x.words) (ap (λ (c : Computed). c.strays) e);

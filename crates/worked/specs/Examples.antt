@@ -16,7 +16,7 @@ pub record Example : Type 0 where
   pub number : ℕ
   pub signals : List SignalKind
   pub kinds : List Kind
-  -- what the check says
+  -- what the check refuses it with, if it does
   pub refusal : Option Refusal
   -- input words, one after another, each with what it comes to: the outputs, the status, the steps
   pub words : List (ℕ × (ℕ × Status × ℕ))
@@ -38,11 +38,11 @@ abbrev pub told : Outcome → ℕ × Status × ℕ
 told o = (o.outputs, o.status, o.steps)
 
 pub record Holds (x : Example) : Type 0 where
-  -- it passes the tests of a table's form
-  pub signals : length x.signals ≤ 64
-  pub statements : (1 ≤ length x.kinds) × (length x.kinds ≤ 256)
+  -- it has the form of a table
+  pub few_signals : length x.signals ≤ 64
+  pub few_statements : (1 ≤ length x.kinds) × (length x.kinds ≤ 256)
   pub formed : Formed (length x.signals) x.kinds
-  -- and what the tests of its meaning say is as said
+  -- the check of its meaning refuses it so, or not at all
   pub checked : check_of x.signals x.kinds ≡ x.refusal
   -- no word has a bit that is no input
   pub inputs : Each (λ word. first_stray x.signals word ≡ None) (firsts x.words)
