@@ -5,4 +5,3 @@ pub mod Letters
 pub mod Texts
 pub mod Model
 pub mod Theorems
-pub mod Worked

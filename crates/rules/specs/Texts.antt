@@ -1,7 +1,6 @@
 -- what is written of an instant
 use Rattle.std.specs.Prelude.{ℕ, zero, suc, ◌+◌, ◌/◌, ◌%◌, ◌^◌, cond, List, [], ◌∷◌, ◌++◌, codes, decimal, nat_lt}
 use Rattle.rules.specs.declared.status.Status.{Status}
-use Rattle.rules.specs.declared.worked.Summary.{Summary}
 use Rattle.rules.specs.Letters.{letter_of}
 
 -- 0 to 9, then a to f
@@ -17,7 +16,3 @@ hex (suc i) n = digit (n / 16 ^ i % 16) ∷ hex i n
 abbrev pub instant_text : ℕ → ℕ → Status → ℕ → List ℕ
 instant_text instant outputs status steps =
     decimal instant ++ (codes " " ++ (hex 16 outputs ++ (codes " " ++ (letter_of status ++ (codes " " ++ decimal steps)))))
-
--- the same after the number of the routine
-abbrev pub summary_text : Summary → List ℕ
-summary_text s = decimal s.routine ++ (codes " " ++ instant_text s.instant s.outputs s.status s.steps)

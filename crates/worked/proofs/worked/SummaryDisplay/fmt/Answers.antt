@@ -1,6 +1,6 @@
 use Rattle.std.proofs.Common.{rules}
 use Rattle.rules.proofs.Hexadecimal.{written_hex}
-use Rattle.rules.proofs.worked.SummaryDisplay.fmt.Goals as goal
+use Rattle.worked.proofs.worked.SummaryDisplay.fmt.Goals as goal
 
 pub returns-clause-writes : goal.returns-clause-writes
 returns-clause-writes g c = search (rules, written_hex)

@@ -1,8 +1,9 @@
 ghost use Rattle.std.specs.Prelude.{◌≡◌, Some};
-ghost use Rattle.rules.specs.Texts.{summary_text};
-ghost use Rattle.rules.specs.Worked.{All, claims, model_lines};
+ghost use Rattle.worked.specs.Texts.{summary_text};
+ghost use Rattle.worked.specs.Examples.{Each, Holds, lines};
+ghost use Rattle.worked.specs.Worked.{examples};
 
-use crate::status::Status;
+use rules::Status;
 use std::fmt;
 
 // What one instant of a worked routine comes to.
@@ -31,10 +32,10 @@ impl fmt::Display for Summary {
     }
 }
 
-// What the plain model makes of the worked routines, instant by instant.
+// What the plain model makes of the words of the worked routines, instant by instant; and all that is claimed of them holds.
 pub fn worked_routines() -> [Summary; 15]
-    ensures lines { result ≡ model_lines }
-    ensures claims { All claims }
+    ensures lines { result ≡ lines examples }
+    ensures claims { Each Holds examples }
 {
     [
         Summary {

@@ -1,0 +1,92 @@
+-- what is claimed of the worked routines holds, by computation
+use Rattle.std.proofs.Common.{◌≡◌, ℕ, Bool, true, false, not, List, [], ◌∷◌, length, map, None, Option, nat_le, refl, ap, arith}
+use native.Mathlib.Decide.{ℕ_discrete}
+use Rattle.signals.specs.Sets.{word_set, empty}
+use Rattle.routine.specs.declared.refusals.Refusal.{Refusal}
+use Rattle.routine.specs.Search.{lowest}
+use Rattle.routine.specs.Kinds.{kind_at}
+use Rattle.routine.specs.Layout.{fits, Formed}
+use Rattle.routine.specs.Tree.{tree, tree_at}
+use Rattle.routine.specs.Meaning.{check_of}
+use Rattle.routine.proofs.Searches.{none_below}
+use Rattle.rules.specs.declared.status.Status.{Status}
+use Rattle.rules.specs.Model.{settled, path, model}
+use Rattle.count.specs.Calls.{new_state, first_stray}
+use Rattle.relay.specs.History.{Past, pasts}
+use Rattle.worked.specs.Examples.{Example, firsts, seconds, Each, told, Holds}
+use Rattle.worked.specs.Worked.{examples}
+
+-- what is computed of an example
+record Computed : Type 0 where
+  few_signals : Bool
+  a_statement : Bool
+  few_statements : Bool
+  misfit : Option ℕ
+  refusal : Option Refusal
+  strays : List (Option ℕ)
+  words : List (ℕ × Status × ℕ)
+  calls : List Past
+
+abbrev misfits : Example → ℕ → Bool
+misfits x i = not (fits (length x.signals) (length x.kinds) i (kind_at x.kinds i))
+
+abbrev found : Example → Computed
+found x =
+    record {
+      few_signals = nat_le (length x.signals) 64;
+      a_statement = nat_le 1 (length x.kinds);
+      few_statements = nat_le (length x.kinds) 256;
+      misfit = lowest (misfits x) (length x.kinds);
+      refusal = check_of x.signals x.kinds;
+      strays = map (first_stray x.signals) (firsts x.words);
+      words = map told (model x.signals x.kinds (firsts x.words));
+      calls = pasts x.signals x.kinds (new_state x.kinds) (firsts x.calls);
+    }
+
+abbrev wanted : Example → Computed
+wanted x =
+    record {
+      few_signals = true;
+      a_statement = true;
+      few_statements = true;
+      misfit = None;
+      refusal = x.refusal;
+      strays = map (λ word. None) (firsts x.words);
+      words = seconds x.words;
+      calls = seconds x.calls;
+    }
+
+fit : (b : Bool) → not b ≡ false → b ≡ true
+fit true e = refl
+fit false e = absurd (grind arith)
+
+-- no statement is found that does not fit
+formed : (x : Example) → lowest (misfits x) (length x.kinds) ≡ None → Formed (length x.signals) x.kinds
+formed x e = λ i l. fit (fits (length x.signals) (length x.kinds) i (kind_at x.kinds i)) (none_below (misfits x) (length x.kinds) e i l)
+
+none_each : (f : ℕ → Option ℕ) (ws : List ℕ) → map f ws ≡ map (λ w. None) ws → Each (λ w. f w ≡ None) ws
+none_each f [] e = tt
+none_each f (w ∷ ws) e = (grind (arith, e), none_each f ws (grind (arith, e)))
+
+holds : (x : Example) → found x ≡ wanted x → Holds x
+holds x e =
+    let g = ap (λ (c : Computed). c.few_signals) e in
+    let n = ap (λ (c : Computed). c.a_statement) e in
+    let m = ap (λ (c : Computed). c.few_statements) e in
+    record {
+      few_signals = grind (arith, g);
+      few_statements = (grind (arith, n), grind (arith, m));
+      formed = formed x (ap (λ (c : Computed). c.misfit) e);
+      checked = ap (λ (c : Computed). c.refusal) e;
+      inputs = none_each (first_stray x.signals) (firsts x.words) (ap (λ (c : Computed). c.strays) e);
+      words = ap (λ (c : Computed). c.words) e;
+      calls = ap (λ (c : Computed). c.calls) e;
+    }
+
+each : (xs : List Example) → map found xs ≡ map wanted xs → Each Holds xs
+each [] e = tt
+each (x ∷ xs) e = (holds x (grind (arith, e)), each xs (grind (arith, e)))
+
+pub all_hold : Each Holds examples
+unfolding word_set empty tree tree_at check_of settled path first_stray pasts ℕ_discrete
+all_hold = each examples refl
