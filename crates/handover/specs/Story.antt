@@ -7,10 +7,11 @@ use Rattle.routine.specs.declared.kinds.Kind.{Kind}
 use Rattle.routine.specs.declared.kinds.Statement.{Statement}
 use Rattle.routine.specs.declared.refusals.Refusal.{Refusal}
 use Rattle.routine.specs.Kinds.{kinds}
-use Rattle.routine.specs.Refusals.{refusal_line}
 use Rattle.routine.specs.Texts.{line_end}
 use Rattle.routine.specs.View.{load_of}
 use Rattle.input.specs.Input.{table_part, rest_part}
+use Rattle.input.specs.Printed.{said}
+use Rattle.input.specs.declared.printed.Printed.{Printed}
 use Rattle.record.specs.Record.{record_of}
 use Rattle.relay.specs.Asked.{Asked}
 use Rattle.count.specs.Calls.{new_state}
@@ -102,9 +103,14 @@ abbrev pub SameWordsIn : List SignalKind → List Kind → List ℕ → Type 0
 SameWordsIn gs ks bytes = SameWords gs ks (first_of bytes) (second_of bytes) (third_of bytes) (fourth_of bytes)
 
 -- a table that is no routine is refused
-abbrev pub started : Result (List SignalKind × List Statement) Refusal → List ℕ → List ℕ
-started (Ok p) bytes = told_lists p.0 (kinds p.1) bytes
-started (Err e) bytes = refusal_line e ++ line_end
+abbrev pub started : Result (List SignalKind × List Statement) Refusal → List ℕ → Result (List ℕ) Refusal
+started (Ok p) bytes = Ok (told_lists p.0 (kinds p.1) bytes)
+started (Err e) bytes = Err e
 
-unfoldable pub story_of : List ℕ → List ℕ
+abbrev pub story_of : List ℕ → Result (List ℕ) Refusal
 story_of bytes = started (load_of (table_part bytes)) (rest_part bytes)
+
+-- of a routine: where the words are the same, so are the instants
+abbrev pub SaysSame : Result (List SignalKind × List Statement) Refusal → List ℕ → Printed → Type 0
+SaysSame (Ok p) bytes s = SameWordsIn p.0 (kinds p.1) bytes → said s ≡ Ok (told_same p.0 (kinds p.1) bytes)
+SaysSame (Err e) bytes s = Unit {0}

@@ -13,7 +13,7 @@ use story::story;
 fn main(rt: HostRuntime) -> anyhow::Result<()> {
     let mut bytes = Vec::new(rt.alloc());
     rt.stdin().take(65536).read_to_end(&mut bytes)?;
-    let text = story(rt.alloc(), &bytes)?;
-    print!(rt; "{text}")?;
+    let printed = story(rt.alloc(), &bytes)?;
+    print!(rt; "{printed}")?;
     Ok(())
 }

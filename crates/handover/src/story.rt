@@ -1,12 +1,15 @@
 ghost use Rattle.std.specs.Prelude.{◌≡◌, ◌++◌, map, IfOk, OnOk, string_bytes};
-ghost use Rattle.routine.specs.View.{kinds_of, signals_of};
+ghost use Rattle.routine.specs.Refusals.{SaysOrMemory};
+ghost use Rattle.routine.specs.View.{kinds_of, signals_of, load_of};
+ghost use Rattle.input.specs.Input.{table_part, rest_part};
+ghost use Rattle.input.specs.Printed.{said};
 ghost use Rattle.relay.specs.Asked.{asked};
-ghost use Rattle.handover.specs.Story.{one_way, other_way, both_text, same_text, told_lists, story_of, verdict, SameWords, SameWordsIn, told_same};
+ghost use Rattle.handover.specs.Story.{one_way, other_way, both_text, same_text, told_lists, story_of, verdict, SameWords, SameWordsIn, SaysSame, told_same};
 ghost use Rattle.handover.specs.Telling.{IsTold};
 
 use crate::calls::list;
 use crate::tellings::{Telling, tell_kept};
-use input::cut;
+use input::{Printed, cut};
 use relay::{Keeper, Plan, relay_twice};
 use routine::{Refusal, Routine, load};
 use signals::{BitBoard, Board, StampBoard};
@@ -109,18 +112,19 @@ fn tell_both(
     Ok(())
 }
 
-// What there is to print of the input's bytes.
-#[tactic(auto, unfolding(crate::specs::Story::story_of))]
-pub(crate) fn story(heap: Global, bytes: &[u8]) -> Result<String, AllocError>
-    ensures { IfOk result (λ s. string_bytes s ≡ story_of bytes.now) }
+// What there is to print of the input's bytes. A table that is no routine is refused whatever memory there is.
+pub fn story(heap: Global, bytes: &[u8]) -> Result<Printed, AllocError>
+    ensures says { SaysOrMemory (story_of bytes.now) said result }
+    ensures same { IfOk result (SaysSame (load_of (table_part bytes.now)) (rest_part bytes.now)) }
 {
-    let mut text = String::new(heap);
     let (table, lists) = cut(bytes);
-    match load(heap, table) {
-        Ok(routine) => tell_both(heap, &mut text, routine, lists)?,
+    let routine = match load(heap, table) {
+        Ok(routine) => routine,
         // Want of memory is no refusal of the table.
         Err(Refusal::Memory) => return Err(AllocError),
-        Err(refusal) => writeln!(text, "{refusal}")?,
-    }
-    Ok(text)
+        Err(refusal) => return Ok(Printed::Refused { refusal }),
+    };
+    let mut text = String::new(heap);
+    tell_both(heap, &mut text, routine, lists)?;
+    Ok(Printed::Lines { text })
 }
