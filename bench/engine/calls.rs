@@ -26,12 +26,15 @@ pub enum Answer {
     Stepped {
         statement: usize,
     },
+    /// The closing, and the statements that were stepped in the instant, in their order.
     Closed {
         closing: Closing,
+        stepped: Vec<usize>,
     },
     Reacted {
         word: u64,
         closing: Closing,
+        stepped: Vec<usize>,
     },
     Refused {
         refusal: Refusal,
@@ -58,8 +61,18 @@ impl fmt::Display for Answer {
         match self {
             Answer::Begun { word } => write!(f, "begin {word:016x}"),
             Answer::Stepped { statement } => write!(f, "step {statement}"),
-            Answer::Closed { closing } => write!(f, "close {closing}"),
-            Answer::Reacted { word, closing } => write!(f, "react {word:016x} {closing}"),
+            Answer::Closed { closing, stepped } => {
+                write!(f, "close {closing}")?;
+                write_stepped(f, stepped)
+            }
+            Answer::Reacted {
+                word,
+                closing,
+                stepped,
+            } => {
+                write!(f, "react {word:016x} {closing}")?;
+                write_stepped(f, stepped)
+            }
             Answer::Refused { refusal } => write!(f, "{refusal}"),
             Answer::RecordLengthRefused => write!(f, "refused 61 0"),
             Answer::RecordRefused => write!(f, "refused record"),
@@ -67,17 +80,43 @@ impl fmt::Display for Answer {
     }
 }
 
-/// Carries out a call, if it is not refused. A record is never taken over.
-pub fn answer(count: &mut Count, call: &Call) -> Answer {
+fn write_stepped(f: &mut fmt::Formatter<'_>, stepped: &[usize]) -> fmt::Result {
+    write!(f, " stepped")?;
+    stepped.iter().try_for_each(|step| write!(f, " {step}"))
+}
+
+/// The statements that a react to the word steps.
+fn steps_of_react(count: &Count, word: u64) -> Result<Vec<usize>, Refusal> {
+    let mut count = count.clone();
+    let mut stepped = Vec::new();
+    count.begin(word)?;
+    while let Some(statement) = count.lowest_ready() {
+        count.step(statement)?;
+        stepped.push(statement);
+    }
+    Ok(stepped)
+}
+
+/// Carries out a call, if it is not refused. A record is never taken over. `stepped` has the statements that were stepped in
+/// the open instant.
+pub fn answer(count: &mut Count, stepped: &mut Vec<usize>, call: &Call) -> Answer {
     let answer = match *call {
         Call::Begin { word } => count.begin(word).map(|()| Answer::Begun { word }),
-        Call::Step { statement } => count
-            .step(statement)
-            .map(|()| Answer::Stepped { statement }),
-        Call::Close => count.close().map(|closing| Answer::Closed { closing }),
-        Call::React { word } => count
-            .react(word)
-            .map(|closing| Answer::Reacted { word, closing }),
+        Call::Step { statement } => count.step(statement).map(|()| {
+            stepped.push(statement);
+            Answer::Stepped { statement }
+        }),
+        Call::Close => count.close().map(|closing| Answer::Closed {
+            closing,
+            stepped: std::mem::take(stepped),
+        }),
+        Call::React { word } => steps_of_react(count, word).and_then(|stepped| {
+            count.react(word).map(|closing| Answer::Reacted {
+                word,
+                closing,
+                stepped,
+            })
+        }),
         Call::TakeOver { ref record } if record.len() == RECORD_BYTES => Ok(Answer::RecordRefused),
         Call::TakeOver { .. } => Ok(Answer::RecordLengthRefused),
     };
@@ -119,9 +158,11 @@ pub fn listing(input: &[u8]) -> Option<String> {
     let mut text = String::new();
     for _ in 0..2 {
         let mut count = Count::new(&routine);
+        let mut stepped = Vec::new();
         for _ in 0..2 {
             for _ in 0..bytes.number()? {
-                text.push_str(&format!("{}\n", answer(&mut count, &bytes.call()?)));
+                let answer = answer(&mut count, &mut stepped, &bytes.call()?);
+                text.push_str(&format!("{answer}\n"));
             }
         }
     }

@@ -118,6 +118,7 @@ fn course(random: &mut Random, routine: &Routine, inputs: Signals, words: &[u64]
         routine,
         inputs,
         count: Count::new(routine),
+        stepped: Vec::new(),
         course: Vec::new(),
     };
     let mut steps = Vec::new();
@@ -159,6 +160,8 @@ struct Driver<'a, 'r> {
     routine: &'r Routine,
     inputs: Signals,
     count: Count<'r>,
+    /// The statements that were stepped in the open instant.
+    stepped: Vec<usize>,
     course: Vec<(Call, Answer)>,
 }
 
@@ -190,7 +193,7 @@ impl Driver<'_, '_> {
     }
 
     fn carry_out(&mut self, call: Call) {
-        let answer = answer(&mut self.count, &call);
+        let answer = answer(&mut self.count, &mut self.stepped, &call);
         self.course.push((call, answer));
     }
 
@@ -203,7 +206,7 @@ impl Driver<'_, '_> {
     /// Makes a call at random if it is one that must be refused now.
     fn try_refused(&mut self) {
         let call = self.any_call();
-        let answer = answer(&mut self.count.clone(), &call);
+        let answer = answer(&mut self.count.clone(), &mut Vec::new(), &call);
         if answer.refusal().is_some() {
             self.course.push((call, answer));
         }
@@ -293,7 +296,7 @@ impl Course {
         self.answers
             .iter()
             .filter_map(|answer| match *answer {
-                Answer::Closed { closing } | Answer::Reacted { closing, .. } => Some(closing),
+                Answer::Closed { closing, .. } | Answer::Reacted { closing, .. } => Some(closing),
                 _ => None,
             })
             .collect()

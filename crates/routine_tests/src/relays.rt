@@ -1,0 +1,138 @@
+use crate::tables::{INPUT, OUTPUT, routine};
+use count::{Closing, Count};
+use relay::{Call, Event, Keeper, Plan, relay, resume};
+use routine::{Mark, Refusal};
+use rules::Status;
+use signals::{BitBoard, Board, StampBoard};
+use std::process::Abort;
+use std::test::Fail;
+
+// sequence(wait A, sequence(emit B, stop)), with A, B = 0, 1
+const WAIT_AND_EMIT: [[u8; 4]; 5] = [
+    [4, 0, 1, 2],
+    [3, 0, 0, 0],
+    [4, 0, 3, 4],
+    [2, 1, 0, 0],
+    [1, 0, 0, 0],
+];
+
+fn stepped(event: &Event, wanted: usize) -> bool {
+    matches!(event, Event::Stepped { statement } if *statement == wanted)
+}
+
+fn refused(event: &Event, wanted: Refusal) -> bool {
+    matches!(event, Event::Refused { refusal } if *refusal == wanted)
+}
+
+// A count is handed over in the middle of an instant; the second board goes on with it.
+#[test]
+fn midway(rt: HostRuntime) -> Result<(), Fail> {
+    let routine = routine(rt.alloc(), &[INPUT, OUTPUT], &WAIT_AND_EMIT)?;
+    let plan = Plan {
+        first: BitBoard::new(),
+        second: StampBoard::new(),
+        before: &[
+            Call::React { word: 0 },
+            Call::Begin { word: 1 },
+            Call::Step { statement: 1 },
+        ],
+        later: &[
+            Call::Step { statement: 1 },
+            Call::Step { statement: 0 },
+            Call::Step { statement: 3 },
+            Call::Step { statement: 2 },
+            Call::Close,
+        ],
+    };
+    let mut one = Keeper::new(rt.alloc());
+    let mut other = Keeper::new(rt.alloc());
+    let (relayed, _) = relay(routine, plan, &mut one, &mut other);
+    let before = one.events()?;
+    let later = other.events()?;
+    assert!(rt; matches!(before[0], Event::Reacted { word: 0, .. }));
+    assert!(rt; stepped(&before[2], 1));
+    assert_eq!(rt; (before.len(), later.len()), (3, 6));
+    assert!(rt; matches!(later[0], Event::TakenOver));
+    assert!(rt; refused(&later[1], Refusal::NotReady { statement: 1 }));
+    let closing = Closing {
+        instant: 2,
+        outputs: 2,
+        status: Status::Suspended,
+        steps: 4,
+    };
+    let Event::Closed {
+        closing: closed,
+        marks,
+    } = &later[5]
+    else {
+        return Err(Fail::new("another event"));
+    };
+    assert_eq!(rt; *closed, closing);
+    assert_eq!(rt;
+        marks.as_slice(),
+        [Mark::UnderWay, Mark::Idle, Mark::UnderWay, Mark::Idle, Mark::Done].as_slice()
+    );
+    // The first board is as it was at the hand-over, and the second as it was left.
+    assert!(rt; relayed.first.ask(0) && !relayed.second.ask(0));
+    assert_eq!(rt; (relayed.handed[13], relayed.left[13]), (1, 0));
+    Ok(())
+}
+
+// The record is taken over by a count that is at something else: refused records leave it there.
+#[test]
+fn resumed_elsewhere(rt: HostRuntime) -> Result<(), Fail> {
+    let mut count = Count::new(
+        routine(rt.alloc(), &[INPUT, OUTPUT], &WAIT_AND_EMIT)?,
+        BitBoard::new(),
+    );
+    count.begin(1)?;
+    count.step(1)?;
+    let mut record = [0; 279];
+    count.hand_over(&mut record);
+    let mut count = Count::new(
+        routine(rt.alloc(), &[INPUT, OUTPUT], &WAIT_AND_EMIT)?,
+        StampBoard::new(),
+    );
+    count.react(1)?;
+    count.begin(0)?;
+    let earlier = [
+        Call::TakeOver { record: &[] },
+        Call::Step { statement: 4 },
+    ];
+    let later = [
+        Call::TakeOver {
+            record: &record[1..],
+        },
+        Call::Step { statement: 0 },
+        Call::React { word: 1 },
+    ];
+    let mut keeper = Keeper::new(rt.alloc());
+    resume(&mut count, &earlier, &record, &later, &mut keeper);
+    let events = keeper.events()?;
+    assert_eq!(rt; events.len(), 6);
+    assert!(rt; refused(&events[0], Refusal::RecordForm));
+    assert!(rt; refused(&events[1], Refusal::NotReady { statement: 4 }));
+    assert!(rt; matches!(events[2], Event::TakenOver));
+    assert!(rt; refused(&events[3], Refusal::RecordForm));
+    assert!(rt; stepped(&events[4], 0));
+    assert!(rt; refused(&events[5], Refusal::AlreadyOpen));
+    assert_eq!(rt; (count.closed(), count.steps()), (0, 2));
+    Ok(())
+}
+
+// A react tells the statements that it steps, the lowest ready one first.
+#[test]
+fn react_is_told(rt: HostRuntime) -> Result<(), Fail> {
+    let mut count = Count::new(
+        routine(rt.alloc(), &[INPUT, OUTPUT], &WAIT_AND_EMIT)?,
+        BitBoard::new(),
+    );
+    let mut keeper = Keeper::new(rt.alloc());
+    relay::carry_out_all(&mut count, &[Call::React { word: 1 }], &mut keeper);
+    let events = keeper.events()?;
+    let Event::Reacted { stepped, .. } = &events[0] else {
+        return Err(Fail::new("another event"));
+    };
+    assert_eq!(rt; stepped.as_slice(), [1, 0, 3, 2].as_slice());
+    Ok(())
+}
