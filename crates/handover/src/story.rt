@@ -146,11 +146,16 @@ pub(crate) fn story(heap: Global, bytes: &[u8]) -> Result<String, AllocError>
 {
     let mut text = String::new(heap);
     let (table, lists) = cut(bytes);
-    match (load(heap, table), load(heap, table)) {
-        (Ok(one), Ok(other)) => tell_both(heap, &mut text, one, other, lists)?,
+    let one = match load(heap, table) {
+        Ok(one) => one,
         // Want of memory is no refusal of the table.
-        (Err(Refusal::Memory), _) | (_, Err(Refusal::Memory)) => return Err(AllocError),
-        (Err(refusal), _) | (_, Err(refusal)) => writeln!(text, "{refusal}")?,
-    }
+        Err(Refusal::Memory) => return Err(AllocError),
+        Err(refusal) => {
+            writeln!(text, "{refusal}")?;
+            return Ok(text);
+        }
+    };
+    let other = load(heap, table).map_err(|_| AllocError)?;
+    tell_both(heap, &mut text, one, other, lists)?;
     Ok(text)
 }
