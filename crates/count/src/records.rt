@@ -6,7 +6,7 @@ ghost use Rattle.count.specs.CountView.{kinds_of, signals_of, state_of, TakesOve
 
 use crate::counts::Count;
 use crate::words;
-use record::{Head, Phase, Saved};
+use record::{Head, Phase, Saved, Standing};
 use routine::{Refusal, Routine};
 use signals::Board;
 
@@ -34,6 +34,16 @@ impl<B: Board> Count<B> {
         }
     }
 
+    fn standing(&self) -> Standing<'_>
+        ensures head { result.head ≡ head_of (length (signals_of self.now)) (state_of B.present self.now) }
+        ensures routine { result.routine.now ≡ self.now.rows.routine }
+    {
+        Standing {
+            head: self.head(),
+            routine: &self.rows.routine,
+        }
+    }
+
     // Writes the count's record and gives its routine back; the count is used up.
     pub fn hand_over(self, place: &mut [u8; 279]) -> Routine
     where
@@ -42,7 +52,7 @@ impl<B: Board> Count<B> {
         ensures kinds { kinds_read result.table ≡ kinds_of self }
         ensures signals { signals_read result.table ≡ signals_of self }
     {
-        *place = record::write(&self.head(), &self.rows.routine);
+        *place = record::write(self.standing());
         self.rows.routine
     }
 
