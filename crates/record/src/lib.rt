@@ -1,11 +1,11 @@
 #![tactic(auto)]
 
 mod candidates;
-pub mod heads;
+mod heads;
 mod marks;
-pub mod phases;
-pub mod records;
-pub mod standings;
+mod phases;
+mod records;
+mod standings;
 
 pub use heads::Head;
 pub use phases::Phase;

@@ -1,8 +1,8 @@
 #![tactic(auto)]
 
-pub mod status;
+mod status;
 pub mod theorems;
-pub mod worked;
+mod worked;
 
 pub use status::Status;
 pub use worked::{Summary, worked_routines};
