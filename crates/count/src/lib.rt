@@ -1,17 +1,17 @@
 #![tactic(auto)]
 
-pub mod answers;
-pub mod calls;
-pub mod counts;
+mod answers;
+mod calls;
+mod counts;
 mod guides;
 mod machine;
-pub mod questions;
-pub mod reactions;
+mod questions;
+mod reactions;
 mod ready;
-pub mod records;
-pub mod rows;
-pub mod tracers;
-pub mod trips;
+mod records;
+mod rows;
+mod tracers;
+mod trips;
 mod words;
 
 pub use answers::Closing;

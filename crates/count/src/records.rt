@@ -5,7 +5,7 @@ ghost use Rattle.count.specs.CountView.{kinds_of, signals_of, state_of, TakesOve
 
 use crate::counts::Count;
 use crate::words;
-use record::{Head, Phase, Saved};
+use record::{Head, Phase, Saved, Standing};
 use routine::{Refusal, Routine};
 use signals::Board;
 
@@ -40,13 +40,23 @@ impl<B: Board> Count<B> {
         }
     }
 
+    fn standing(&self) -> Standing<'_>
+        ensures head { result.head ≡ head_of (length (signals_of self.now)) (state_of B.present self.now) }
+        ensures routine { result.routine.now ≡ self.now.rows.routine }
+    {
+        Standing {
+            head: self.head(),
+            routine: &self.rows.routine,
+        }
+    }
+
     // Writes the count's record; the count is used up, and its routine and its board are given back as they are.
     pub fn hand_over(self, place: &mut [u8; 279]) -> Released<B>
         ensures record { place.new ≡ record_of (length (signals_of self)) (length (kinds_of self)) (state_of B.present self) }
         ensures board { result.board ≡ self.board }
         ensures routine { result.routine ≡ self.rows.routine }
     {
-        *place = record::write(&self.head(), &self.rows.routine);
+        *place = record::write(self.standing());
         Released {
             routine: self.rows.routine,
             board: self.board,

@@ -16,7 +16,7 @@ pub(crate) struct Front {
 // The statements of a routine with their marks, and what guides the search for the lowest ready one: the plain inside of a
 // count.
 #[derive(Debug, Drop)]
-pub struct Rows {
+pub(crate) struct Rows {
     pub(crate) routine: Routine,
     pub(crate) guards: [u8; 256],
     pub(crate) waiters: [u8; 64],

@@ -1,19 +1,22 @@
 -- what is known of bytes that are accepted
-use Rattle.std.proofs.Common.{◌≡◌, ℕ, ◌+◌, ◌<◌, Bool, true, false, not, ◌&&◌, ◌||◌, List, length, Some, None, Option, get_or, refl, sym, slice_index, is_some, cond, nat_lt, ◌==◌}
-use Rattle.std.proofs.lemmas.Bool.{and_parts, or_parts, not-true, not-false, eqb-true, ltb-true, true≢false}
+use Rattle.std.proofs.Common.{◌≡◌, ℕ, ◌+◌, ◌<◌, ◌≤◌, Bool, true, false, not, ◌&&◌, ◌||◌, List, length, Some, None, Option, get_or, refl, sym, ap, ◌∙◌, slice_index, is_some, ⊎_elim, ◌==◌, arith}
+use Rattle.std.proofs.lemmas.Bool.{and_parts, or_parts, not-true, not-false, eqb-true, true≢false, cases_lt, cond-false, ne_eqb}
 use Rattle.routine.specs.declared.kinds.Kind.{Kind}
 use Rattle.routine.specs.declared.kinds.SignalKind.{SignalKind}
 use Rattle.routine.specs.Search.{lowest, any}
 use Rattle.routine.specs.Tree.{tree_at}
 use Rattle.routine.proofs.Searches.{none_below}
-use Rattle.rules.specs.Rules.{Mark, over}
+use Rattle.rules.specs.Rules.{Mark, idle, over}
 use Rattle.rules.specs.Legal.{keeps}
 use Rattle.record.specs.declared.phases.Phase.{Phase}
+use Rattle.record.specs.declared.heads.Head.{Head}
+use Rattle.record.specs.declared.heads.HeadFault.{HeadFault}
 use Rattle.record.specs.Phases.{is_open, is_over}
 use Rattle.record.specs.Record.{contents}
-use Rattle.record.specs.Taking.{is_fixed, is_wrong, is_fixed_right, has_form, head_in, head_fault, fault_by, marks_in, breaks, marks_fault, taking_by, taking_refusal}
+use Rattle.record.proofs.Fields.{at-marks_read}
+use Rattle.record.specs.Taking.{is_fixed, is_wrong, is_fixed_right, has_form, phase_in, phase_or_resting, head_in, head_fault, fault_of, fault_by, mark_in, marks_read, marks_in, breaks, marks_fault, taking_by, taking_refusal}
 
-parts_taken : (b : Bool) (h m : Option ℕ) → taking_by b h m ≡ None → (b ≡ true) × (h ≡ None) × (m ≡ None)
+parts_taken : (b : Bool) (h : Option HeadFault) (m : Option ℕ) → taking_by b h m ≡ None → (b ≡ true) × (h ≡ None) × (m ≡ None)
 parts_taken false h m e = absurd (cc)
 parts_taken true (Some o) m e = absurd (cc)
 parts_taken true None (Some i) e = absurd (cc)
@@ -41,19 +44,35 @@ formed : (n : ℕ) (bytes : List ℕ) → has_form n bytes ≡ true → (length 
 unfolding has_form
 formed n bytes h = let p = and_parts (length bytes == 279) (is_fixed_right n bytes) h in (eqb-true (length bytes) 279 p.0, p.1)
 
-tested : (b : Bool) (o : Option ℕ) → cond b o (Some 0) ≡ None → (b ≡ true) × (o ≡ None)
-tested true o e = (refl, e)
-tested false o e = absurd (cc)
+-- from 3 on a byte is no phase, and from 4 on no mark
+no_phase : (b : ℕ) → 3 ≤ b → phase_in b ≡ None
+no_phase b l =
+    cond-false (b == 0) _ _ (ne_eqb b 0 (λ q. omega arith)) ∙ cond-false (b == 1) _ _ (ne_eqb b 1 (λ q. omega arith))
+    ∙ cond-false (b == 2) _ _ (ne_eqb b 2 (λ q. omega arith))
+
+no_mark : (b : ℕ) → 4 ≤ b → mark_in b ≡ None
+no_mark b l =
+    cond-false (b == 0) _ _ (ne_eqb b 0 (λ q. omega arith)) ∙ cond-false (b == 1) _ _ (ne_eqb b 1 (λ q. omega arith))
+    ∙ cond-false (b == 2) _ _ (ne_eqb b 2 (λ q. omega arith)) ∙ cond-false (b == 3) _ _ (ne_eqb b 3 (λ q. omega arith))
+
+is_mark : (b : ℕ) → is_some (mark_in b) ≡ true → b < 4
+is_mark b e = ⊎_elim (λ l. l) (λ (l : 4 ≤ b). absurd (true≢false (sym e ∙ ap is_some (no_mark b l)))) (cases_lt b 4)
+
+is_phase : (b g : ℕ) (h : Head) → fault_of (phase_in b) g h ≡ None → b < 3
+is_phase b g h e = ⊎_elim (λ l. l) (λ (l : 3 ≤ b). absurd (true≢false (ap is_some (sym (ap (λ o. fault_of o g h) (no_phase b l)) ∙ e)))) (cases_lt b 3)
+
+-- a head of a phase that is read
+of_phase : (o : Option Phase) (g : ℕ) (h : Head) → fault_of o g h ≡ None → fault_by (phase_or_resting o) g h ≡ None
+of_phase None g h e = absurd (cc)
+of_phase (Some p) g h e = e
 
 head_taken : (g : ℕ) (bytes : List ℕ) → head_fault g bytes ≡ None → (get_or bytes 8 0 < 3) × (fault_by (head_in bytes).phase g (head_in bytes) ≡ None)
-unfolding head_fault
-head_taken g bytes h =
-    let p = tested (nat_lt (slice_index bytes 8) 3) (fault_by (head_in bytes).phase g (head_in bytes)) h in
-    (ltb-true (slice_index bytes 8) 3 p.0, p.1)
+unfolding head_fault head_in
+head_taken g bytes h = (is_phase (slice_index bytes 8) g (head_in bytes) h, of_phase (phase_in (slice_index bytes 8)) g (head_in bytes) h)
 
-marks_taken : (ks : List Kind) (bytes : List ℕ) → marks_fault ks bytes ≡ None → (i : ℕ) → i < length ks → breaks ks bytes (head_in bytes).phase (marks_in (length ks) bytes) i ≡ false
+marks_taken : (ks : List Kind) (bytes : List ℕ) → marks_fault ks bytes ≡ None → (i : ℕ) → i < length ks → breaks ks (head_in bytes).phase (marks_read (length ks) bytes) i ≡ false
 unfolding marks_fault
-marks_taken ks bytes = none_below (breaks ks bytes (head_in bytes).phase (marks_in (length ks) bytes)) (length ks)
+marks_taken ks bytes = none_below (breaks ks (head_in bytes).phase (marks_read (length ks) bytes)) (length ks)
 
 module _ (gs : List SignalKind) (ks : List Kind) (bytes : List ℕ) (ok : taking_refusal gs ks bytes ≡ None) where
   three : (has_form (length ks) bytes ≡ true) × (head_fault (length gs) bytes ≡ None) × (marks_fault ks bytes ≡ None)
@@ -77,12 +96,12 @@ module _ (gs : List SignalKind) (ks : List Kind) (bytes : List ℕ) (ok : taking
   abbrev ms : List Mark
   ms = marks_in (length ks) bytes
 
-  unbroken : (i : ℕ) → i < length ks → (not (nat_lt (slice_index bytes (23 + i)) 4) ≡ false)
+  unbroken : (i : ℕ) → i < length ks → (not (is_some (get_or (marks_read (length ks) bytes) i (Some idle))) ≡ false)
       × ((not (keeps (is_open phase) ks ms i) || ((i == 0) && (is_over phase && not (over (tree_at ks 0) ms)))) ≡ false)
   unbroken i l = or_parts _ _ (marks_taken ks bytes three.2 i l)
 
   pub some_mark : (i : ℕ) → i < length ks → get_or bytes (23 + i) 0 < 4
-  some_mark i l = ltb-true (slice_index bytes (23 + i)) 4 (not-false _ (unbroken i l).0)
+  some_mark i l = is_mark (slice_index bytes (23 + i)) (ap is_some (sym (at-marks_read (length ks) bytes i l)) ∙ not-false _ (unbroken i l).0)
 
   pub each_keeps : (i : ℕ) → i < length ks → keeps (is_open phase) ks ms i ≡ true
   each_keeps i l = not-false _ (or_parts _ _ (unbroken i l).1).0

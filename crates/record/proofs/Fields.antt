@@ -1,15 +1,18 @@
 -- the fields of a head, and the marks, as bytes and back
-use Rattle.std.proofs.Common.{◌≡◌, ℕ, zero, suc, ◌+◌, ◌^◌, ◌<◌, ◌≤◌, Bool, true, false, cond, Some, None, Option, List, ◌∷◌, ◌++◌, length, get_or, refl, ⊎_elim, slice_index, nat_lt, ◌==◌, arith}
+use Rattle.std.proofs.Common.{◌≡◌, ℕ, zero, suc, ◌+◌, ◌^◌, ◌<◌, ◌≤◌, Bool, true, false, cond, Some, None, Option, List, ◌∷◌, ◌++◌, length, get_or, refl, ap, ◌∙◌, ⊎_elim, slice_index, nat_lt, ◌==◌, arith}
 use Rattle.std.proofs.lemmas.Bool.{eqb-true, eqb-false, ltb-true, cases_lt}
 use Rattle.std.proofs.lemmas.Nat.{le_bytes_2, le_bytes_4, le_bytes_8}
-use Rattle.std.proofs.lemmas.List.{get_or_past}
+use Rattle.std.proofs.lemmas.List.{get_or_past, length-map}
+use lib.ListN.{get_or-map}
 use Rattle.std.proofs.lemmas.List.FromFn.{length-map-range_with_len, get_or-map-range_with_len}
 use Rattle.rules.specs.Rules.{Mark, idle, waiting, underway, done, at}
 use Rattle.record.specs.declared.phases.Phase.{Phase}
 use Rattle.record.specs.declared.phases.Phase.TheVariants.{Resting, Open, Over}
 use Rattle.record.specs.declared.heads.Head.{Head}
+use Rattle.record.specs.declared.heads.HeadFault.{HeadFault}
+use Rattle.record.specs.declared.heads.HeadFault.TheVariants.{NoNumber, StraySteps, StraySignals}
 use Rattle.record.specs.Record.{phase_byte, mark_byte, head_bytes}
-use Rattle.record.specs.Taking.{part, phase_in, phase_or_resting, mark_in, marks_in, head_in, still_fault, open_fault}
+use Rattle.record.specs.Taking.{part, phase_in, phase_or_resting, mark_in, marks_read, counted, marks_in, head_in, still_fault, open_fault}
 
 pub phase_again : (b : ℕ) → b < 3 → phase_byte (phase_or_resting (phase_in b)) ≡ b
 phase_again zero l = refl
@@ -17,65 +20,60 @@ phase_again (suc zero) l = refl
 phase_again (suc (suc zero)) l = refl
 phase_again (suc (suc (suc b))) l = absurd (omega arith)
 
-pub phase_read : (p : Phase) → phase_or_resting (phase_in (phase_byte p)) ≡ p
+pub phase_read : (p : Phase) → phase_in (phase_byte p) ≡ Some p
 phase_read Resting = refl
 phase_read Open = refl
 phase_read Over = refl
 
-pub phase_byte_small : (p : Phase) → phase_byte p < 3
-phase_byte_small Resting = omega arith
-phase_byte_small Open = omega arith
-phase_byte_small Over = omega arith
-
-pub mark_again : (b : ℕ) → b < 4 → mark_byte (mark_in b) ≡ b
+pub mark_again : (b : ℕ) → b < 4 → mark_byte (counted (mark_in b)) ≡ b
 mark_again zero l = refl
 mark_again (suc zero) l = refl
 mark_again (suc (suc zero)) l = refl
 mark_again (suc (suc (suc zero))) l = refl
 mark_again (suc (suc (suc (suc b)))) l = absurd (omega arith)
 
-pub mark_read : (m : Mark) → mark_in (mark_byte m) ≡ m
+pub mark_read : (m : Mark) → mark_in (mark_byte m) ≡ Some m
 mark_read idle = refl
 mark_read waiting = refl
 mark_read underway = refl
 mark_read done = refl
 
-pub mark_byte_small : (m : Mark) → mark_byte m < 4
-mark_byte_small idle = omega arith
-mark_byte_small waiting = omega arith
-mark_byte_small underway = omega arith
-mark_byte_small done = omega arith
-
 module _ (n : ℕ) (bytes : List ℕ) where
-  pub length-marks_in : length (marks_in n bytes) ≡ n
-  unfolding marks_in
-  length-marks_in = length-map-range_with_len (λ i. mark_in (slice_index bytes (23 + i))) 0 n
+  length-marks_read : length (marks_read n bytes) ≡ n
+  unfolding marks_read
+  length-marks_read = length-map-range_with_len (λ i. mark_in (slice_index bytes (23 + i))) 0 n
 
-  pub at-marks_in : (i : ℕ) → i < n → at (marks_in n bytes) i ≡ mark_in (slice_index bytes (23 + i))
-  unfolding marks_in
-  at-marks_in i l = get_or-map-range_with_len (λ (k : ℕ). mark_in (slice_index bytes (23 + k))) 0 n i i idle l (omega arith)
+  pub at-marks_read : (i : ℕ) → i < n → get_or (marks_read n bytes) i (Some idle) ≡ mark_in (slice_index bytes (23 + i))
+  unfolding marks_read
+  at-marks_read i l = get_or-map-range_with_len (λ (k : ℕ). mark_in (slice_index bytes (23 + k))) 0 n i i (Some idle) l (omega arith)
+
+  pub length-marks_in : length (marks_in n bytes) ≡ n
+  length-marks_in = length-map (marks_read n bytes) counted ∙ length-marks_read
+
+  pub at-marks_in : (i : ℕ) → i < n → at (marks_in n bytes) i ≡ counted (mark_in (slice_index bytes (23 + i)))
+  at-marks_in i l = get_or-map counted (marks_read n bytes) i (Some idle) ∙ ap counted (at-marks_read i l)
 
   pub marks_in_past : (i : ℕ) → n ≤ i → at (marks_in n bytes) i ≡ idle
   marks_in_past i l = let m = length-marks_in in get_or_past (marks_in n bytes) i idle (omega arith)
 
-passes : (b : Bool) (o : Option ℕ) (k : ℕ) → cond b o (Some k) ≡ None → (b ≡ true) × (o ≡ None)
+passes : (b : Bool) (o : Option HeadFault) (k : HeadFault) → cond b o (Some k) ≡ None → (b ≡ true) × (o ≡ None)
 passes true o k e = (refl, e)
 passes false o k e = absurd (cc)
 
-stops : (b : Bool) (o : Option ℕ) (k : ℕ) → cond b (Some k) o ≡ None → (b ≡ false) × (o ≡ None)
+stops : (b : Bool) (o : Option HeadFault) (k : HeadFault) → cond b (Some k) o ≡ None → (b ≡ false) × (o ≡ None)
 stops true o k e = absurd (cc)
 stops false o k e = (refl, e)
 
 -- what a head without a fault has
 pub still_zeros : (h : Head) → still_fault h ≡ None → (h.steps ≡ 0) × (h.present ≡ 0)
 still_zeros h e =
-    let p = passes (h.steps == 0) (cond (h.present == 0) None (Some 7)) 5 e in
-    (eqb-true h.steps 0 p.0, eqb-true h.present 0 (passes (h.present == 0) None 7 p.1).0)
+    let p = passes (h.steps == 0) (cond (h.present == 0) None (Some StraySignals)) StraySteps e in
+    (eqb-true h.steps 0 p.0, eqb-true h.present 0 (passes (h.present == 0) None StraySignals p.1).0)
 
 pub open_bounds : (g : ℕ) (h : Head) → open_fault g h ≡ None → (h.closed ≡ 4294967295 → ⊥) × (h.present < 2 ^ g)
 open_bounds g h e =
-    let p = stops (h.closed == 4294967295) (cond (nat_lt h.present (2 ^ g)) None (Some 7)) 1 e in
-    (eqb-false h.closed 4294967295 p.0, ltb-true h.present (2 ^ g) (passes (nat_lt h.present (2 ^ g)) None 7 p.1).0)
+    let p = stops (h.closed == 4294967295) (cond (nat_lt h.present (2 ^ g)) None (Some StraySignals)) NoNumber e in
+    (eqb-false h.closed 4294967295 p.0, ltb-true h.present (2 ^ g) (passes (nat_lt h.present (2 ^ g)) None StraySignals p.1).0)
 
 -- the numbers of a part are bytes too
 small_part : (bytes : List ℕ) (n p : ℕ) → ((i : ℕ) → get_or bytes i 0 < 256) → (i : ℕ) → get_or (part bytes n p) i 0 < 256

@@ -8,11 +8,14 @@ use lib.ListN.{length-replicate, get_or-map}
 use Rattle.std.proofs.lemmas.Bool.{and_left, and_right, and_from, eq-eqb, ne_eqb, cond_below, cond_above}
 use Rattle.routine.specs.declared.kinds.Kind.{Kind}
 use Rattle.routine.specs.declared.kinds.SignalKind.{SignalKind}
+use Rattle.routine.specs.Search.{lowest}
 use Rattle.rules.specs.Rules.{Mark, idle}
 use Rattle.record.specs.Answers.{answer}
+use Rattle.record.specs.declared.phases.Phase.{Phase}
 use Rattle.record.specs.declared.heads.Head.{Head}
+use Rattle.record.specs.declared.heads.HeadFault.{HeadFault}
 use Rattle.record.specs.Record.{contents, head_bytes, mark_byte, written, byte_at}
-use Rattle.record.specs.Taking.{is_fixed_right, has_form, head_fault, marks_fault, taking_by, taking_refusal, saved_in}
+use Rattle.record.specs.Taking.{is_fixed_right, has_form, head_in, head_fault, marks_read, breaks, marks_fault, taking_by, taking_refusal, saved_in}
 
 pub misformed : (n : ℕ) (bytes : List ℕ) → is_fixed_right n bytes ≡ false → has_form n bytes ≡ false
 unfolding has_form
@@ -89,8 +92,14 @@ bytes_written n h ms l few =
     place cs hs bs n refl refl m few i k
     ∙ ap (λ b. cond (nat_lt i 8) (slice_index cs i) (cond (nat_lt i 23) (slice_index hs (i - 8)) b)) (get_or-map mark_byte ms (i - 23) idle))
 
+-- the statement whose mark is wrong, by the phase and the marks that were read
+pub fault_read : (ks : List Kind) (bytes : List ℕ) (p : Phase) (ms : List (Option Mark)) → p ≡ (head_in bytes).phase → ms ≡ marks_read (length ks) bytes
+    → marks_fault ks bytes ≡ lowest (breaks ks p ms) (length ks)
+unfolding marks_fault
+fault_read ks bytes p ms e f = sym (ap₂ (λ (q : Phase) (rs : List (Option Mark)). lowest (breaks ks q rs) (length ks)) e f)
+
 -- the refusal, by what the three tests say
-pub taken_by : (gs : List SignalKind) (ks : List Kind) (bytes : List ℕ) (b : Bool) (h m : Option ℕ) → has_form (length ks) bytes ≡ b
+pub taken_by : (gs : List SignalKind) (ks : List Kind) (bytes : List ℕ) (b : Bool) (h : Option HeadFault) (m : Option ℕ) → has_form (length ks) bytes ≡ b
     → head_fault (length gs) bytes ≡ h → marks_fault ks bytes ≡ m → answer (taking_by b h m) (saved_in bytes) ≡ answer (taking_refusal gs ks bytes) (saved_in bytes)
 taken_by gs ks bytes b h m p q r = sym
     (ap (λ c. answer (taking_by c (head_fault (length gs) bytes) (marks_fault ks bytes)) (saved_in bytes)) p ∙ ap₂ (λ x y. answer (taking_by b x y) (saved_in bytes)) q r)

@@ -1,12 +1,12 @@
 -- how many statements and marks a table has, and the marks of a record
-use Rattle.std.proofs.Common.{◌≡◌, ℕ, ◌+◌, ◌≤◌, List, length, take, slice_index, vec_items, vec_len, sym, ◌∙◌, arith}
-use Rattle.std.proofs.lemmas.List.{length-map}
+use Rattle.std.proofs.Common.{◌≡◌, ℕ, ◌+◌, ◌≤◌, List, length, map, take, slice_index, vec_items, vec_len, sym, ap, ◌∙◌, arith}
+use Rattle.std.proofs.lemmas.List.{length-map, take-map}
 use Rattle.std.proofs.lemmas.List.FromFn.{take-map-range_with_len}
 use Rattle.routine.specs.declared.kinds.Statement.{Statement}
 use Rattle.routine.specs.declared.tables.Table.{Table}
 use Rattle.routine.specs.Kinds.{marks}
 use Rattle.routine.specs.View.{kinds_of}
-use Rattle.record.specs.Taking.{mark_in, marks_in}
+use Rattle.record.specs.Taking.{mark_in, marks_read, counted, marks_in}
 use Rattle.routine.proofs.Lists.{kinds_length}
 
 pub marks_length : (ss : List Statement) (n : ℕ) → n ≡ length ss → length (marks ss) ≡ n
@@ -23,6 +23,9 @@ module _ (t : Table) where
   few_kinds = let m = kinds_many in let l = t.most in omega arith
 
 -- the first n marks of a record
+pub read_cut : (n : ℕ) (bytes : List ℕ) → n ≤ 256 → take n (marks_read 256 bytes) ≡ marks_read n bytes
+unfolding marks_read
+read_cut n bytes l = take-map-range_with_len (λ i. mark_in (slice_index bytes (23 + i))) 0 256 n l
+
 pub marks_cut : (n : ℕ) (bytes : List ℕ) → n ≤ 256 → take n (marks_in 256 bytes) ≡ marks_in n bytes
-unfolding marks_in
-marks_cut n bytes l = take-map-range_with_len (λ i. mark_in (slice_index bytes (23 + i))) 0 256 n l
+marks_cut n bytes l = take-map counted n (marks_read 256 bytes) ∙ ap (map counted) (read_cut n bytes l)

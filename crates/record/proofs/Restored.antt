@@ -1,5 +1,5 @@
 -- the record of a sound state is accepted, and says that state
-use Rattle.std.proofs.Common.{◌≡◌, ℕ, ◌+◌, ◌-◌, ◌^◌, ◌<◌, ◌≤◌, Bool, true, false, not, ◌&&◌, cond, List, length, take, drop, None, Some, Option, is_some, get_or, refl, sym, ap, ap₂, ◌∙◌, ⊎_elim, slice_index, nat_lt, nat_le, ◌==◌, arith, ext_get_or, pow_mono}
+use Rattle.std.proofs.Common.{◌≡◌, ℕ, ◌+◌, ◌-◌, ◌^◌, ◌<◌, ◌≤◌, Bool, true, false, not, ◌&&◌, cond, List, length, map, take, drop, None, Some, Option, is_some, get_or, refl, sym, ap, ap₂, ◌∙◌, ⊎_elim, nat_lt, nat_le, ◌==◌, arith, ext_get_or, pow_mono}
 use Rattle.std.specs.Int.{w16, w32, w64, from_le_bytes}
 use Rattle.std.proofs.lemmas.Bool.{cases_lt, lt-ltb, le-ltb, lt-leb, eq-eqb, ne_eqb, and_left, and_right, or_from, not_from_true, cond-true, cond-false}
 use Rattle.std.proofs.lemmas.List.{get_or_past}
@@ -12,20 +12,22 @@ use Rattle.routine.proofs.Searches.{lowest_none}
 use Rattle.signals.specs.Sets.{empty, word_set}
 use Rattle.signals.proofs.WordSets.{word_set-zero}
 use Rattle.rules.specs.Rules.{Mark, idle, Signals, at, over}
-use Rattle.rules.specs.Legal.{keeps}
+use Rattle.rules.specs.Legal.{Legal, keeps}
 use Rattle.rules.specs.Model.{word_from}
 use Rattle.record.specs.declared.phases.Phase.{Phase}
 use Rattle.record.specs.declared.phases.Phase.TheVariants.{Resting, Open, Over}
 use Rattle.record.specs.declared.heads.Head.{Head}
+use Rattle.record.specs.declared.heads.HeadFault.{HeadFault}
+use Rattle.record.specs.declared.heads.HeadFault.TheVariants.{NoNumber, StraySignals}
 use Rattle.record.specs.Phases.{is_open, is_over}
 use Rattle.record.specs.State.{State}
 use Rattle.record.specs.Sound.{Within, Sound}
 use Rattle.record.specs.Record.{contents, head_bytes, mark_byte, steps_written, word_written, written, head_of, record_of}
-use Rattle.record.specs.Taking.{part, is_fixed, is_wrong, is_fixed_right, has_form, mark_in, phase_in, phase_or_resting, head_in, marks_in, fault_by, head_fault, breaks, marks_fault, taking_by, taking_refusal, state_in}
+use Rattle.record.specs.Taking.{part, is_fixed, is_wrong, is_fixed_right, has_form, mark_in, counted, phase_in, phase_or_resting, head_in, marks_read, marks_in, fault_by, fault_of, head_fault, breaks, marks_fault, taking_by, taking_refusal, state_in}
 use Rattle.record.proofs.Forms.{well_formed}
 use Rattle.record.proofs.Words.{word_below, set_again}
 use Rattle.record.proofs.Places.{in_contents, in_head, in_marks, part_is, length_written, byte_written}
-use Rattle.record.proofs.Fields.{phase_read, phase_byte_small, mark_read, mark_byte_small, length-marks_in, at-marks_in}
+use Rattle.record.proofs.Fields.{phase_read, mark_read, length-marks_in, at-marks_read, at-marks_in}
 
 everywhere : (P : ℕ → Bool) (n : ℕ) → ((k : ℕ) → k < n → P k ≡ false) → not (any P n) ≡ true
 everywhere P n h = ap (λ o. not (is_some o)) (lowest_none P n h)
@@ -71,20 +73,24 @@ module _ (n : ℕ) (h : Head) (ms : List Mark) (m : length ms ≡ n) (few : n �
   mark_written : (i : ℕ) → i < 256 → get_or (written n h ms) (23 + i) 0 ≡ mark_byte (at ms i)
   mark_written i l = let j : 23 + i - 23 ≡ i = omega arith in of_mark (23 + i) (omega arith) (omega arith) ∙ ap (λ k. mark_byte (at ms k)) j
 
-  phase_small : get_or (written n h ms) 8 0 < 3
-  phase_small = let e = ap (λ bs. get_or bs 0 0) head_written in let s = phase_byte_small h.phase in omega arith
+  phase_said : phase_in (get_or (written n h ms) 8 0) ≡ Some h.phase
+  phase_said = ap (λ bs. phase_in (get_or bs 0 0)) head_written ∙ phase_read h.phase
 
-  marks_read : marks_in n (written n h ms) ≡ ms
-  marks_read =
+  -- each statement has a mark
+  mark_said : (i : ℕ) → i < n → is_some (get_or (marks_read n (written n h ms)) i (Some idle)) ≡ true
+  mark_said i l = ap is_some (at-marks_read n (written n h ms) i l ∙ ap mark_in (mark_written i (omega arith)) ∙ mark_read (at ms i))
+
+  marks_same : marks_in n (written n h ms) ≡ ms
+  marks_same =
       ext_get_or idle (marks_in n (written n h ms)) ms (length-marks_in n (written n h ms) ∙ sym m)
       (λ i b. let l : i < n = omega (arith, length-marks_in n (written n h ms)) in
-      at-marks_in n (written n h ms) i l ∙ ap mark_in (mark_written i (omega arith)) ∙ mark_read (at ms i))
+      at-marks_in n (written n h ms) i l ∙ ap (λ b. counted (mark_in b)) (mark_written i (omega arith)) ∙ ap counted (mark_read (at ms i)))
 
   head_read : h.closed < 4294967296 → h.steps < 65536 → h.present < 2 ^ 64 → head_in (written n h ms) ≡ h
   unfolding head_in
   head_read c s w =
       let bs = head_written in
-      let p = ap (λ xs. phase_or_resting (phase_in (get_or xs 0 0))) bs ∙ phase_read h.phase in
+      let p = ap phase_or_resting phase_said in
       let a = ap (λ xs. from_le_bytes w32 (take 4 (drop 1 xs))) bs ∙ from_le_bytes-to_le_bytes_4 h.closed c in
       let b = ap (λ xs. from_le_bytes w16 (take 2 (drop 5 xs))) bs ∙ from_le_bytes-to_le_bytes_2 h.steps s in
       let d = ap (λ xs. from_le_bytes w64 (drop 7 xs)) bs ∙ from_le_bytes-to_le_bytes_8 h.present w in
@@ -101,46 +107,46 @@ set_kept Resting g e still h l = word_set-zero ∙ sym (still refl)
 set_kept Open g e still h l = set_again e g l h
 set_kept Over g e still h l = word_set-zero ∙ sym (still refl)
 
-word_fits : (p : Phase) (g : ℕ) (e : Signals) → g ≤ 64 → word_written p g e < 2 ^ 64
+pub word_fits : (p : Phase) (g : ℕ) (e : Signals) → g ≤ 64 → word_written p g e < 2 ^ 64
 word_fits Resting g e few = omega arith
 word_fits Open g e few = omega (arith, word_below (λ s. get_or e s false) g 0, pow_mono few)
 word_fits Over g e few = omega arith
 
 -- the head of such a state has no fault
-no_fault : (p : Phase) (g closed steps : ℕ) (e : Signals) → (is_open p ≡ true → closed < 4294967295)
+pub no_fault : (p : Phase) (g closed steps : ℕ) (e : Signals) → (is_open p ≡ true → closed < 4294967295)
     → fault_by p g (record { phase = p; closed = closed; steps = steps_written p steps; present = word_written p g e }) ≡ None
 no_fault Resting g closed steps e room = refl
 no_fault Open g closed steps e room =
     let r = room refl in
     let w = word_from (λ s. get_or e s false) g 0 in
-    cond-false (closed == 4294967295) (Some 1) (cond (nat_lt w (2 ^ g)) None (Some 7)) (ne_eqb closed 4294967295 (λ q. absurd (omega arith)))
-    ∙ cond-true (nat_lt w (2 ^ g)) None (Some 7) (lt-ltb w (2 ^ g) (word_below (λ s. get_or e s false) g 0))
+    cond-false (closed == 4294967295) (Some NoNumber) (cond (nat_lt w (2 ^ g)) None (Some StraySignals)) (ne_eqb closed 4294967295 (λ q. absurd (omega arith)))
+    ∙ cond-true (nat_lt w (2 ^ g)) None (Some StraySignals) (lt-ltb w (2 ^ g) (word_below (λ s. get_or e s false) g 0))
 no_fault Over g closed steps e room = refl
 
 -- statement i breaks no rule
-unbroken : (ks : List Kind) (bytes : List ℕ) (p : Phase) (ms : List Mark) (i : ℕ) → get_or bytes (23 + i) 0 < 4 → keeps (is_open p) ks ms i ≡ true
-    → (is_over p ≡ true → over (tree_at ks 0) ms ≡ true) → breaks ks bytes p ms i ≡ false
-unbroken ks bytes p ms i l k f =
-    or_from (not (nat_lt (slice_index bytes (23 + i)) 4)) _ (not_from_true _ (lt-ltb (slice_index bytes (23 + i)) 4 l))
-    (or_from (not (keeps (is_open p) ks ms i)) _ (not_from_true _ k) (and_right (i == 0) _ (ended (is_over p) (over (tree_at ks 0) ms) f)))
+unbroken : (ks : List Kind) (p : Phase) (ms : List (Option Mark)) (i : ℕ) → is_some (get_or ms i (Some idle)) ≡ true → keeps (is_open p) ks (map counted ms) i ≡ true
+    → (is_over p ≡ true → over (tree_at ks 0) (map counted ms) ≡ true) → breaks ks p ms i ≡ false
+unbroken ks p ms i l k f =
+    or_from (not (is_some (get_or ms i (Some idle)))) _ (not_from_true _ l)
+    (or_from (not (keeps (is_open p) ks (map counted ms) i)) _ (not_from_true _ k) (and_right (i == 0) _ (ended (is_over p) (over (tree_at ks 0) (map counted ms)) f)))
   where
     ended : (a b : Bool) → (a ≡ true → b ≡ true) → (a && not b) ≡ false
     ended true b h = not_from_true b (h refl)
     ended false b h = refl
 
 -- what is read then passes both tests
-head_passes : (g : ℕ) (bytes : List ℕ) (h : Head) → head_in bytes ≡ h → get_or bytes 8 0 < 3 → fault_by h.phase g h ≡ None → head_fault g bytes ≡ None
+head_passes : (g : ℕ) (bytes : List ℕ) (h : Head) → head_in bytes ≡ h → phase_in (get_or bytes 8 0) ≡ Some h.phase → fault_by h.phase g h ≡ None → head_fault g bytes ≡ None
 unfolding head_fault
-head_passes g bytes h e l f =
-    cond-true (nat_lt (slice_index bytes 8) 3) _ (Some 0) (lt-ltb (slice_index bytes 8) 3 l) ∙ ap (λ (k : Head). fault_by k.phase g k) e ∙ f
+head_passes g bytes h e p f = ap₂ (λ (o : Option Phase) (k : Head). fault_of o g k) p e ∙ f
 
-marks_pass : (ks : List Kind) (bytes : List ℕ) (h : Head) (ms : List Mark) → head_in bytes ≡ h → marks_in (length ks) bytes ≡ ms
-    → ((i : ℕ) → i < length ks → breaks ks bytes h.phase ms i ≡ false) → marks_fault ks bytes ≡ None
+marks_pass : (ks : List Kind) (bytes : List ℕ) (h : Head) → head_in bytes ≡ h
+    → ((i : ℕ) → i < length ks → breaks ks h.phase (marks_read (length ks) bytes) i ≡ false) → marks_fault ks bytes ≡ None
 unfolding marks_fault
-marks_pass ks bytes h ms e f b =
-    ap₂ (λ (k : Head) (ns : List Mark). lowest (breaks ks bytes k.phase ns) (length ks)) e f ∙ lowest_none (breaks ks bytes h.phase ms) (length ks) b
+marks_pass ks bytes h e b =
+    ap (λ (k : Head). lowest (breaks ks k.phase (marks_read (length ks) bytes)) (length ks)) e
+    ∙ lowest_none (breaks ks h.phase (marks_read (length ks) bytes)) (length ks) b
 
-passed : (b : Bool) (h m : Option ℕ) → b ≡ true → h ≡ None → m ≡ None → taking_by b h m ≡ None
+passed : (b : Bool) (h : Option HeadFault) (m : Option ℕ) → b ≡ true → h ≡ None → m ≡ None → taking_by b h m ≡ None
 passed b h m e f g = ap₂ (λ c k. taking_by c k m) e f ∙ ap (taking_by true None) g
 
 -- the state that the bytes say, for that head and those marks
@@ -149,6 +155,27 @@ state_read : (n : ℕ) (bytes : List ℕ) (h : Head) (ms : List Mark) → head_i
 unfolding head_in
 state_read n bytes h ms e f = λ i. record { phase = (e i).phase; closed = (e i).closed; steps = (e i).steps; marks = f i; present = word_set (e i).present }
 
+-- the record of a head without a fault, over legal marks
+module _ (gs : List SignalKind) (ks : List Kind) (h : Head) (ms : List Mark) (most : length ks ≤ 256) (closed : h.closed < 4294967296) (steps : h.steps < 65536)
+    (word : h.present < 2 ^ 64) (fine : fault_by h.phase (length gs) h ≡ None) (legal : Legal (is_open h.phase) ks ms)
+    (finished : is_over h.phase ≡ true → over (tree_at ks 0) ms ≡ true) where
+  abbrev bs : List ℕ
+  bs = written (length ks) h ms
+
+  none_breaks : (i : ℕ) → i < length ks → breaks ks h.phase (marks_read (length ks) bs) i ≡ false
+  none_breaks i l =
+      let e = marks_same (length ks) h ms legal.many most in
+      unbroken ks h.phase (marks_read (length ks) bs) i (mark_said (length ks) h ms legal.many most i l)
+      (ap (λ ns. keeps (is_open h.phase) ks ns i) e ∙ legal.each i l) (λ o. ap (over (tree_at ks 0)) e ∙ finished o)
+
+  pub is_taken : taking_refusal gs ks bs ≡ None
+  is_taken =
+      let e = head_read (length ks) h ms legal.many most closed steps word in
+      passed (has_form (length ks) bs) (head_fault (length gs) bs) (marks_fault ks bs)
+      (form_written (length ks) h ms legal.many most)
+      (head_passes (length gs) bs h e (phase_said (length ks) h ms legal.many most) fine)
+      (marks_pass ks bs h e none_breaks)
+
 module _ (gs : List SignalKind) (ks : List Kind) (s : State) (most : length ks ≤ 256) (few : length gs ≤ 64) (sound : Sound gs ks s) where
   abbrev h : Head
   h = head_of (length gs) s
@@ -156,30 +183,22 @@ module _ (gs : List SignalKind) (ks : List Kind) (s : State) (most : length ks �
   abbrev bytes : List ℕ
   bytes = record_of (length gs) (length ks) s
 
-  many : length s.marks ≡ length ks
-  many = sound.legal.many
+  steps_small : h.steps < 65536
+  steps_small = let e = steps_kept s.phase s.steps sound.calm in let f = sound.steps_fit in omega arith
+
+  word_small : h.present < 2 ^ 64
+  word_small = word_fits s.phase (length gs) s.present few
 
   head_said : head_in bytes ≡ h
-  head_said =
-      let e = steps_kept s.phase s.steps sound.calm in
-      let f = sound.steps_fit in
-      head_read (length ks) h s.marks many most sound.closed_fits (omega arith) (word_fits s.phase (length gs) s.present few)
+  head_said = head_read (length ks) h s.marks sound.legal.many most sound.closed_fits steps_small word_small
 
   marks_said : marks_in (length ks) bytes ≡ s.marks
-  marks_said = marks_read (length ks) h s.marks many most
-
-  none_breaks : (i : ℕ) → i < length ks → breaks ks bytes s.phase s.marks i ≡ false
-  none_breaks i l =
-      let e = mark_written (length ks) h s.marks many most i (omega arith) in
-      let b = mark_byte_small (at s.marks i) in
-      unbroken ks bytes s.phase s.marks i (omega arith) (sound.legal.each i l) sound.finished
+  marks_said = marks_same (length ks) h s.marks sound.legal.many most
 
   taken : taking_refusal gs ks bytes ≡ None
   taken =
-      passed (has_form (length ks) bytes) (head_fault (length gs) bytes) (marks_fault ks bytes)
-      (form_written (length ks) h s.marks many most)
-      (head_passes (length gs) bytes h head_said (phase_small (length ks) h s.marks many most) (no_fault s.phase (length gs) s.closed s.steps s.present sound.room))
-      (marks_pass ks bytes h s.marks head_said marks_said none_breaks)
+      is_taken gs ks h s.marks most sound.closed_fits steps_small word_small
+      (no_fault s.phase (length gs) s.closed s.steps s.present sound.room) sound.legal sound.finished
 
   said : state_in (length ks) bytes ≡ s
   said =

@@ -1,8 +1,7 @@
 -- what a call answers
 use Rattle.std.specs.Prelude.{Some, None, Ok, Err, Option, Result}
-use Rattle.routine.specs.declared.refusals.Refusal.{Refusal}
 
 -- refused for a reason, or else x
-abbrev pub answer : {X : Type 0} → Option Refusal → X → Result X Refusal
+abbrev pub answer : {E X : Type 0} → Option E → X → Result X E
 answer None x = Ok x
 answer (Some e) x = Err e

@@ -1,5 +1,5 @@
 -- which bytes are the record of a sound state, and of which
-use Rattle.std.specs.Prelude.{ℕ, ◌+◌, ◌^◌, Bool, true, false, cond, not, ◌&&◌, ◌||◌, List, length, map, Some, None, Option, ◌==◌, nat_lt, nat_le, slice_index}
+use Rattle.std.specs.Prelude.{ℕ, ◌+◌, ◌^◌, Bool, true, false, cond, not, ◌&&◌, ◌||◌, List, length, map, is_some, Some, None, Option, Result, ◌==◌, nat_lt, nat_le, slice_index, slice_index_or}
 use Rattle.std.specs.List.{range_with_len}
 use Rattle.std.specs.Int.{w16, w32, w64, from_le_bytes}
 use Rattle.routine.specs.declared.kinds.Kind.{Kind}
@@ -14,8 +14,11 @@ use Rattle.rules.specs.Legal.{keeps}
 use Rattle.record.specs.declared.phases.Phase.{Phase}
 use Rattle.record.specs.declared.phases.Phase.TheVariants.{Resting, Open, Over}
 use Rattle.record.specs.declared.heads.Head.{Head}
+use Rattle.record.specs.declared.heads.HeadFault.{HeadFault}
+use Rattle.record.specs.declared.heads.HeadFault.TheVariants.{NoPhase, NoNumber, StraySteps, StraySignals}
 use Rattle.record.specs.declared.records.Saved.{Saved}
 use Rattle.record.specs.Phases.{is_open, is_over}
+use Rattle.record.specs.Answers.{answer}
 use Rattle.record.specs.State.{State}
 use Rattle.record.specs.Record.{contents}
 
@@ -36,7 +39,7 @@ is_fixed_right n bytes = not (any (is_wrong n bytes) 279)
 unfoldable pub has_form : ℕ → List ℕ → Bool
 has_form n bytes = (length bytes == 279) && is_fixed_right n bytes
 
--- HEAD. Of a phase above 2 there is none
+-- HEAD. A byte above 2 is no phase
 abbrev pub phase_in : ℕ → Option Phase
 phase_in b = cond (b == 0) (Some Resting) (cond (b == 1) (Some Open) (cond (b == 2) (Some Over) None))
 
@@ -49,7 +52,7 @@ steps_in bytes = from_le_bytes w16 (part bytes 2 13)
 abbrev pub word_in : List ℕ → ℕ
 word_in bytes = from_le_bytes w64 (part bytes 8 15)
 
--- a phase, where there is none resting
+-- (what is no phase is refused; to have a head for all bytes, it stands for resting)
 abbrev pub phase_or_resting : Option Phase → Phase
 phase_or_resting None = Resting
 phase_or_resting (Some phase) = phase
@@ -59,42 +62,64 @@ head_in bytes =
     record { phase = phase_or_resting (phase_in (slice_index bytes 8)); closed = closed_in bytes; steps = steps_in bytes; present = word_in bytes }
 
 -- outside an open instant the steps and the present word are 0
-abbrev pub still_fault : Head → Option ℕ
-still_fault h = cond (h.steps == 0) (cond (h.present == 0) None (Some 7)) (Some 5)
+abbrev pub still_fault : Head → Option HeadFault
+still_fault h = cond (h.steps == 0) (cond (h.present == 0) None (Some StraySignals)) (Some StraySteps)
 
 -- an open instant has a number, and no signal from g on is present
-abbrev pub open_fault : ℕ → Head → Option ℕ
-open_fault g h = cond (h.closed == 4294967295) (Some 1) (cond (nat_lt h.present (2 ^ g)) None (Some 7))
+abbrev pub open_fault : ℕ → Head → Option HeadFault
+open_fault g h = cond (h.closed == 4294967295) (Some NoNumber) (cond (nat_lt h.present (2 ^ g)) None (Some StraySignals))
 
-abbrev pub fault_by : Phase → ℕ → Head → Option ℕ
+abbrev pub fault_by : Phase → ℕ → Head → Option HeadFault
 fault_by Resting g h = still_fault h
 fault_by Open g h = open_fault g h
 fault_by Over g h = still_fault h
 
--- the offset in the head of its first bad field
-unfoldable pub head_fault : ℕ → List ℕ → Option ℕ
-head_fault g bytes = cond (nat_lt (slice_index bytes 8) 3) (fault_by (head_in bytes).phase g (head_in bytes)) (Some 0)
+abbrev pub fault_of : Option Phase → ℕ → Head → Option HeadFault
+fault_of None g h = Some NoPhase
+fault_of (Some phase) g h = fault_by phase g h
 
--- MARKS. A byte above 3 is no mark; it counts as a live one
-abbrev pub mark_in : ℕ → Mark
-mark_in b = cond (b == 0) idle (cond (b == 1) waiting (cond (b == 3) done underway))
+-- what is wrong with the head's first bad field, and the offset in the head of that field
+unfoldable pub head_fault : ℕ → List ℕ → Option HeadFault
+head_fault g bytes = fault_of (phase_in (slice_index bytes 8)) g (head_in bytes)
 
-unfoldable pub marks_in : ℕ → List ℕ → List Mark
-marks_in n bytes = map (λ i. mark_in (slice_index bytes (23 + i))) (range_with_len 0 n)
+abbrev pub offset_of : HeadFault → ℕ
+offset_of NoPhase = 0
+offset_of NoNumber = 1
+offset_of StraySteps = 5
+offset_of StraySignals = 7
 
--- statement i breaks its rule: its byte is no mark, or marks are not legal there, or statement 0 is not over at the end
-abbrev pub breaks : List Kind → List ℕ → Phase → List Mark → ℕ → Bool
-breaks ks bytes phase ms i =
-    not (nat_lt (slice_index bytes (23 + i)) 4)
-    || (not (keeps (is_open phase) ks ms i) || ((i == 0) && (is_over phase && not (over (tree_at ks 0) ms))))
+-- the head, or what is wrong with it
+abbrev pub head_read : ℕ → List ℕ → Result Head HeadFault
+head_read g bytes = answer (head_fault g bytes) (head_in bytes)
+
+-- MARKS. A byte above 3 is no mark
+abbrev pub mark_in : ℕ → Option Mark
+mark_in b = cond (b == 0) (Some idle) (cond (b == 1) (Some waiting) (cond (b == 2) (Some underway) (cond (b == 3) (Some done) None)))
+
+unfoldable pub marks_read : ℕ → List ℕ → List (Option Mark)
+marks_read n bytes = map (λ i. mark_in (slice_index bytes (23 + i))) (range_with_len 0 n)
+
+-- to the rules of other statements, what is no mark is a live one, neither waiting nor done
+abbrev pub counted : Option Mark → Mark
+counted None = underway
+counted (Some mark) = mark
+
+abbrev pub marks_in : ℕ → List ℕ → List Mark
+marks_in n bytes = map counted (marks_read n bytes)
+
+-- statement i breaks its rule: it has no mark, or marks are not legal there, or statement 0 is not over at the end
+abbrev pub breaks : List Kind → Phase → List (Option Mark) → ℕ → Bool
+breaks ks phase ms i =
+    not (is_some (slice_index_or ms i (Some idle)))
+    || (not (keeps (is_open phase) ks (map counted ms) i) || ((i == 0) && (is_over phase && not (over (tree_at ks 0) (map counted ms)))))
 
 unfoldable pub marks_fault : List Kind → List ℕ → Option ℕ
-marks_fault ks bytes = lowest (breaks ks bytes (head_in bytes).phase (marks_in (length ks) bytes)) (length ks)
+marks_fault ks bytes = lowest (breaks ks (head_in bytes).phase (marks_read (length ks) bytes)) (length ks)
 
 -- the first refusal that applies, if one does
-abbrev pub taking_by : Bool → Option ℕ → Option ℕ → Option Refusal
+abbrev pub taking_by : Bool → Option HeadFault → Option ℕ → Option Refusal
 taking_by false head marks = Some RecordForm
-taking_by true (Some offset) marks = Some (RecordHead offset)
+taking_by true (Some fault) marks = Some (RecordHead (offset_of fault))
 taking_by true None (Some i) = Some (RecordMarks i)
 taking_by true None None = None
 

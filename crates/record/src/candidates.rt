@@ -1,35 +1,47 @@
-ghost use Rattle.std.specs.Prelude.{◌≡◌, ◌≤◌, false, slice_index_or};
+ghost use Rattle.std.specs.Prelude.{◌≡◌, ◌≤◌, Some, length, map, slice_index_or};
 ghost use Rattle.routine.specs.Kinds.{shape_at};
+ghost use Rattle.routine.specs.Search.{lowest};
 ghost use Rattle.routine.specs.Tree.{tree_at};
 ghost use Rattle.routine.specs.View.{kinds_of};
 ghost use Rattle.rules.specs.Rules.{idle, at, is_live, over, reached};
 ghost use Rattle.rules.specs.Legal.{row_legal, open_legal, keeps};
+ghost use Rattle.record.specs.Taking.{counted, breaks};
 
+use crate::marks;
+use crate::phases::Phase;
 use routine::{Kind, Mark, Routine};
 
-// Marks that a record gives to a routine's statements; whether they are legal is not known yet.
+// Marks that a record gives to a routine's statements, none where its byte is none; whether they are legal is not known yet.
 #[derive(Drop)]
 pub(crate) struct Candidate<'a> {
     pub(crate) routine: &'a Routine,
-    pub(crate) marks: &'a [Mark],
+    pub(crate) marks: &'a [Option<Mark>],
 }
 
 impl Candidate<'_> {
-    fn mark(&self, i: usize) -> Mark
-        ensures { result ≡ at self.now.marks.now i }
+    // The mark of statement i, if it has one; idle beyond the last.
+    fn read(&self, i: usize) -> Option<Mark>
+        ensures { result ≡ slice_index_or self.now.marks.now i (Some idle) }
     {
-        self.marks.get(i).copied().unwrap_or(Mark::Idle)
+        self.marks.get(i).copied().unwrap_or(Some(Mark::Idle))
+    }
+
+    // The same as the rules of other statements see it.
+    fn mark(&self, i: usize) -> Mark
+        ensures { result ≡ at (map counted self.now.marks.now) i }
+    {
+        marks::counted(self.read(i))
     }
 
     fn is_live(&self, i: usize) -> bool
-        ensures { result ≡ is_live (at self.now.marks.now i) }
+        ensures { result ≡ is_live (at (map counted self.now.marks.now) i) }
     {
         self.mark(i) != Mark::Idle
     }
 
     // Is statement i over?
-    pub(crate) fn over(&self, i: usize) -> bool
-        ensures { result ≡ over (tree_at (kinds_of self.now.routine.now.table) i) self.now.marks.now }
+    fn over(&self, i: usize) -> bool
+        ensures { result ≡ over (tree_at (kinds_of self.now.routine.now.table) i) (map counted self.now.marks.now) }
     {
         let kind = self.routine.table.kind(i);
         if self.mark(i) == Mark::Done {
@@ -49,7 +61,7 @@ impl Candidate<'_> {
 
     // Is k statement i or inside it, and not inside a local that is shut?
     fn reached(&self, i: usize, k: usize) -> bool
-        ensures { result ≡ reached (tree_at (kinds_of self.now.routine.now.table) i) self.now.marks.now k }
+        ensures { result ≡ reached (tree_at (kinds_of self.now.routine.now.table) i) (map counted self.now.marks.now) k }
     {
         let kind = self.routine.table.kind(i);
         if k == i {
@@ -71,7 +83,7 @@ impl Candidate<'_> {
 
     // Do the marks of statement i and of its parts go together?
     fn row_legal(&self, i: usize) -> bool
-        ensures { result ≡ row_legal self.now.marks.now i (shape_at (kinds_of self.now.routine.now.table) i) }
+        ensures { result ≡ row_legal (map counted self.now.marks.now) i (shape_at (kinds_of self.now.routine.now.table) i) }
     {
         match (self.routine.table.kind(i), self.mark(i)) {
             (Kind::Nothing, mark) => matches!(mark, Mark::Idle | Mark::Done),
@@ -104,7 +116,7 @@ impl Candidate<'_> {
 
     // If statement i is a local that is open: is an instant open, and the local not inside one that is shut?
     fn open_legal(&self, now: bool, i: usize) -> bool
-        ensures { result ≡ open_legal now (kinds_of self.now.routine.now.table) self.now.marks.now i }
+        ensures { result ≡ open_legal now (kinds_of self.now.routine.now.table) (map counted self.now.marks.now) i }
     {
         match (self.routine.table.kind(i), self.mark(i)) {
             (Kind::Local { .. }, Mark::UnderWay) => now && self.reached(0, i),
@@ -113,9 +125,25 @@ impl Candidate<'_> {
     }
 
     // Does statement i keep its rule, where `now` says whether an instant is open?
-    pub(crate) fn keeps(&self, now: bool, i: usize) -> bool
-        ensures { result ≡ keeps now (kinds_of self.now.routine.now.table) self.now.marks.now i }
+    fn keeps(&self, now: bool, i: usize) -> bool
+        ensures { result ≡ keeps now (kinds_of self.now.routine.now.table) (map counted self.now.marks.now) i }
     {
         (i != 0 || self.is_live(0)) && self.row_legal(i) && self.open_legal(now, i)
+    }
+
+    // Does statement i break its rule in a record of that phase?
+    fn breaks(&self, phase: Phase, i: usize) -> bool
+        ensures { result ≡ breaks (kinds_of self.now.routine.now.table) phase self.now.marks.now i }
+    {
+        self.read(i).is_none()
+            || !self.keeps(phase == Phase::Open, i)
+            || i == 0 && phase == Phase::Over && !self.over(0)
+    }
+
+    // The lowest statement that does.
+    pub(crate) fn offender(&self, phase: Phase) -> Option<usize>
+        ensures { result ≡ lowest (breaks (kinds_of self.now.routine.now.table) phase self.now.marks.now) (length (kinds_of self.now.routine.now.table)) }
+    {
+        (0..self.routine.count()).find(|&i| self.breaks(phase, i))
     }
 }

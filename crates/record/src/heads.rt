@@ -1,6 +1,6 @@
 ghost use Rattle.std.specs.Prelude.{◌≡◌, ◌≤◌};
 ghost use Rattle.record.specs.Record.{head_bytes};
-ghost use Rattle.record.specs.Taking.{fault_by};
+ghost use Rattle.record.specs.Taking.{fault_by, offset_of};
 
 use crate::phases::Phase;
 
@@ -12,6 +12,30 @@ pub struct Head {
     pub steps: u16,
     // Bit s of the word: signal s is present.
     pub present: u64,
+}
+
+// What is wrong with a field of a head, so that no count has it.
+#[derive(Clone, Copy, Debug, PartialEq, Eq)]
+pub(crate) enum HeadFault {
+    NoPhase,
+    // The closed instants are all that can be counted, and one more is open.
+    NoNumber,
+    StraySteps,
+    StraySignals,
+}
+
+impl HeadFault {
+    // Where in the head the field lies.
+    pub(crate) fn offset(self) -> usize
+        ensures { result ≡ offset_of self }
+    {
+        match self {
+            HeadFault::NoPhase => 0,
+            HeadFault::NoNumber => 1,
+            HeadFault::StraySteps => 5,
+            HeadFault::StraySignals => 7,
+        }
+    }
 }
 
 impl Head {
@@ -40,16 +64,20 @@ impl Head {
         ]
     }
 
-    // The offset of the first field that no head of a routine with so many signals has.
-    pub(crate) fn fault(&self, signals: usize) -> Option<usize>
+    // What is wrong with the first field that no head of a routine with so many signals has.
+    pub(crate) fn fault(&self, signals: usize) -> Option<HeadFault>
         requires { signals ≤ 64 }
         ensures { result ≡ fault_by self.now.phase signals self.now }
     {
         match self.phase {
-            Phase::Open if self.closed == u32::MAX => Some(1),
-            Phase::Open => (u128::from(self.present) >= 1 << signals).then_some(7),
-            Phase::Resting | Phase::Over if self.steps != 0 => Some(5),
-            Phase::Resting | Phase::Over => (self.present != 0).then_some(7),
+            Phase::Open if self.closed == u32::MAX => Some(HeadFault::NoNumber),
+            Phase::Open => {
+                (u128::from(self.present) >= 1 << signals).then_some(HeadFault::StraySignals)
+            }
+            Phase::Resting | Phase::Over if self.steps != 0 => Some(HeadFault::StraySteps),
+            Phase::Resting | Phase::Over => {
+                (self.present != 0).then_some(HeadFault::StraySignals)
+            }
         }
     }
 }

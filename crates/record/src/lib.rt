@@ -1,11 +1,13 @@
 #![tactic(auto)]
 
 mod candidates;
-pub mod heads;
+mod heads;
 mod marks;
-pub mod phases;
-pub mod records;
+mod phases;
+mod records;
+mod standings;
 
 pub use heads::Head;
 pub use phases::Phase;
 pub use records::{Saved, read, write};
+pub use standings::Standing;

@@ -1,6 +1,6 @@
 ghost use Rattle.std.specs.Prelude.{◌≡◌};
 ghost use Rattle.record.specs.Record.{mark_byte};
-ghost use Rattle.record.specs.Taking.{mark_in};
+ghost use Rattle.record.specs.Taking.{mark_in, counted};
 
 use routine::Mark;
 
@@ -16,14 +16,22 @@ pub(crate) fn byte(mark: Mark) -> u8
     }
 }
 
-// The mark that a record writes so. A byte above 3 is none, which is refused elsewhere; it counts as a live mark.
-pub(crate) fn from_byte(byte: u8) -> Mark
+// The mark that a record writes so.
+pub(crate) fn from_byte(byte: u8) -> Option<Mark>
     ensures { result ≡ mark_in byte }
 {
     match byte {
-        0 => Mark::Idle,
-        1 => Mark::Waiting,
-        3 => Mark::Done,
-        _ => Mark::UnderWay,
+        0 => Some(Mark::Idle),
+        1 => Some(Mark::Waiting),
+        2 => Some(Mark::UnderWay),
+        3 => Some(Mark::Done),
+        _ => None,
     }
+}
+
+// What it is to the rules of other statements.
+pub(crate) fn counted(mark: Option<Mark>) -> Mark
+    ensures { result ≡ counted mark }
+{
+    mark.unwrap_or(Mark::UnderWay)
 }

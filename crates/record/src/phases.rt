@@ -40,7 +40,7 @@ impl From<Phase> for u8 {
 
 impl Phase {
     // The phase that a record writes so.
-    pub fn from_byte(byte: u8) -> Option<Phase>
+    pub(crate) fn from_byte(byte: u8) -> Option<Phase>
         ensures { result ≡ phase_in byte }
     {
         match byte {

@@ -1,16 +1,16 @@
-ghost use Rattle.std.specs.Prelude.{◌≡◌, ◌<◌, ◌≤◌, length};
+ghost use Rattle.std.specs.Prelude.{◌≡◌, ◌<◌, ◌≤◌, None, length, map};
 ghost use Rattle.routine.specs.Kinds.{marks as marks_listed};
-ghost use Rattle.routine.specs.Search.{lowest};
 ghost use Rattle.routine.specs.View.{kinds_of, signals_of};
 ghost use Rattle.rules.specs.Rules.{at};
 ghost use Rattle.record.specs.Answers.{answer};
 ghost use Rattle.record.specs.Record.{contents, written, byte_at};
-ghost use Rattle.record.specs.Taking.{part, is_wrong, is_fixed_right, head_in, head_fault, marks_in, breaks, marks_fault, taking_refusal, saved_in};
+ghost use Rattle.record.specs.Taking.{is_wrong, is_fixed_right, head_read, marks_read, counted, taking_refusal, saved_in};
 
 use crate::candidates::Candidate;
-use crate::heads::Head;
+use crate::heads::{Head, HeadFault};
 use crate::marks;
 use crate::phases::Phase;
+use crate::standings::Standing;
 use routine::{Mark, Refusal, Routine};
 
 // What a record says: its head, and marks, idle beyond the last statement.
@@ -28,12 +28,14 @@ fn contents_of(routine: &Routine) -> [u8; 8]
     [8, 0, 15, 0, 23, 0, low, high]
 }
 
-// The record of a routine's statements under that head.
-pub fn write(head: &Head, routine: &Routine) -> [u8; 279]
-    ensures { result ≡ written (length (kinds_of routine.now.table)) head.now (marks_listed routine.now.table.statements.items) }
+// The record of where a count stands, which `read` accepts.
+pub fn write(standing: Standing<'_>) -> [u8; 279]
+    ensures bytes { result ≡ written (length (kinds_of standing.entry.routine.now.table)) standing.entry.head (marks_listed standing.entry.routine.now.table.statements.items) }
+    ensures accepted { taking_refusal (signals_of standing.entry.routine.now.table) (kinds_of standing.entry.routine.now.table) result ≡ None }
 {
+    let routine = standing.routine;
     let contents = contents_of(routine);
-    let fields = head.to_bytes();
+    let fields = standing.head.to_bytes();
     std::array::from_fn(|i| byte_at(&contents, &fields, routine, i))
 }
 
@@ -77,67 +79,39 @@ fn is_fixed_right(bytes: &[u8; 279], routine: &Routine) -> bool
     !(0..279).any(|i| is_wrong(bytes, &expected, n, i))
 }
 
-// The head that stands in the record; a byte that is no phase counts as resting.
-fn head(bytes: &[u8; 279]) -> Head
-    ensures { result ≡ head_in bytes.now }
+// The head that stands in the record, or what is wrong with its first bad field.
+fn head(bytes: &[u8; 279], routine: &Routine) -> Result<Head, HeadFault>
+    ensures { result ≡ head_read (length (signals_of routine.now.table)) bytes.now }
 {
-    Head {
-        phase: Phase::from_byte(bytes[8]).unwrap_or(Phase::Resting),
+    let Some(phase) = Phase::from_byte(bytes[8]) else {
+        return Err(HeadFault::NoPhase);
+    };
+    let head = Head {
+        phase,
         closed: u32::from_le_bytes([bytes[9], bytes[10], bytes[11], bytes[12]]),
         steps: u16::from_le_bytes([bytes[13], bytes[14]]),
         present: u64::from_le_bytes([
             bytes[15], bytes[16], bytes[17], bytes[18], bytes[19], bytes[20], bytes[21], bytes[22],
         ]),
+    };
+    match head.fault(routine.table.signals.len()) {
+        Some(fault) => Err(fault),
+        None => Ok(head),
     }
 }
 
 // The 256 marks that stand in the record; a zero beyond the last statement is read as idle.
-fn marks(bytes: &[u8; 279]) -> [Mark; 256]
-    ensures { result ≡ marks_in 256 bytes.now }
+fn marks(bytes: &[u8; 279]) -> [Option<Mark>; 256]
+    ensures { result ≡ marks_read 256 bytes.now }
 {
     std::array::from_fn(|i| marks::from_byte(bytes[23 + i]))
 }
 
-impl Candidate<'_> {
-    // Does statement i break its rule in a record with that phase?
-    fn breaks(&self, bytes: &[u8; 279], phase: Phase, i: usize) -> bool
-        requires { i < 256 }
-        ensures { result ≡ breaks (kinds_of self.now.routine.now.table) bytes.now phase self.now.marks.now i }
-    {
-        bytes[23 + i] > 3
-            || !self.keeps(phase == Phase::Open, i)
-            || i == 0 && phase == Phase::Over && !self.over(0)
-    }
-
-    // The lowest statement that does.
-    fn offender(&self, bytes: &[u8; 279], phase: Phase) -> Option<usize>
-        ensures { result ≡ lowest (breaks (kinds_of self.now.routine.now.table) bytes.now phase self.now.marks.now) (length (kinds_of self.now.routine.now.table)) }
-    {
-        (0..self.routine.count()).find(|&i| self.breaks(bytes, phase, i))
-    }
-}
-
-// The offset of the first bad field of the record's head.
-fn head_fault(bytes: &[u8; 279], head: &Head, routine: &Routine) -> Option<usize>
-    requires { head.now ≡ head_in bytes.now }
-    ensures { result ≡ head_fault (length (signals_of routine.now.table)) bytes.now }
+// What they are to the rules of other statements.
+fn all_counted(marks: &[Option<Mark>; 256]) -> [Mark; 256]
+    ensures { result ≡ map counted marks.now }
 {
-    if bytes[8] > 2 {
-        return Some(0);
-    }
-    head.fault(routine.table.signals.len())
-}
-
-// The lowest statement of which the record's marks are not legal.
-fn marks_fault(bytes: &[u8; 279], saved: &Saved, routine: &Routine) -> Option<usize>
-    requires { saved.now ≡ saved_in bytes.now }
-    ensures { result ≡ marks_fault (kinds_of routine.now.table) bytes.now }
-{
-    let candidate = Candidate {
-        routine,
-        marks: &saved.marks[..routine.count()],
-    };
-    candidate.offender(bytes, saved.head.phase)
+    marks.map(marks::counted)
 }
 
 fn read_whole(bytes: &[u8; 279], routine: &Routine) -> Result<Saved, Refusal>
@@ -146,17 +120,24 @@ fn read_whole(bytes: &[u8; 279], routine: &Routine) -> Result<Saved, Refusal>
     if !is_fixed_right(bytes, routine) {
         return Err(Refusal::RecordForm);
     }
-    let saved = Saved {
-        head: head(bytes),
-        marks: marks(bytes),
+    let head = match head(bytes, routine) {
+        Ok(head) => head,
+        Err(fault) => return Err(Refusal::RecordHead {
+            offset: fault.offset(),
+        }),
     };
-    if let Some(offset) = head_fault(bytes, &saved.head, routine) {
-        return Err(Refusal::RecordHead { offset });
-    }
-    if let Some(statement) = marks_fault(bytes, &saved, routine) {
+    let marks = marks(bytes);
+    let candidate = Candidate {
+        routine,
+        marks: &marks[..routine.count()],
+    };
+    if let Some(statement) = candidate.offender(head.phase) {
         return Err(Refusal::RecordMarks { statement });
     }
-    Ok(saved)
+    Ok(Saved {
+        head,
+        marks: all_counted(&marks),
+    })
 }
 
 // What the record says, or why it is none of the routine.

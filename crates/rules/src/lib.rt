@@ -1,6 +1,6 @@
 #![tactic(auto)]
 
-pub mod status;
+mod status;
 pub mod theorems;
 
 pub use status::Status;

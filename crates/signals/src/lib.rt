@@ -1,8 +1,8 @@
 #![tactic(auto, using(crate::proofs::Boards::boards))]
 
-pub mod bits;
-pub mod board;
-pub mod stamps;
+mod bits;
+mod board;
+mod stamps;
 
 pub use bits::BitBoard;
 pub use board::Board;

@@ -1,16 +1,28 @@
-use Rattle.std.proofs.Common.{sym, ◌∙◌, rules, length, vec_items}
+use Rattle.std.proofs.Common.{◌<◌, sym, ap, ◌∙◌, arith, rules, length, vec_items}
 use Rattle.routine.specs.Kinds.{marks}
-use Rattle.routine.specs.View.{kinds_of}
+use Rattle.routine.specs.View.{kinds_of, signals_of}
 use Rattle.record.specs.Record.{contents, head_bytes, byte_at}
+use Rattle.record.specs.Taking.{taking_refusal}
 use Rattle.record.proofs.Arrays.{made}
 use Rattle.record.proofs.Forms.{bytes_written}
 use Rattle.record.proofs.Lists.{marks_many, few_kinds}
+use Rattle.record.proofs.Restored.{is_taken}
 use Rattle.record.proofs.records.write.Goals as goal
 
-pub returns : goal.returns
-returns c =
-    let t = c.args.routine.now.table in
+pub returns-clause-bytes : goal.returns-clause-bytes
+returns-clause-bytes c =
+    let h = c.args.standing.head in
+    let t = c.args.standing.routine.now.table in
     let ms = marks (vec_items t.statements) in
     let n = length (kinds_of t) in
-    made _ _ (byte_at (contents n) (head_bytes c.args.head.now) ms) (λ i y q e. search rules) _ 0 279 c.from_fn.ensures.items
-    ∙ sym (bytes_written n c.args.head.now ms (marks_many t) (few_kinds t))
+    made _ _ (byte_at (contents n) (head_bytes h) ms) (λ i y q e. search rules) _ 0 279 c.from_fn.ensures.items
+    ∙ sym (bytes_written n h ms (marks_many t) (few_kinds t))
+
+pub returns-clause-accepted : goal.returns-clause-accepted
+returns-clause-accepted c =
+    let s = c.args.standing in
+    let t = s.routine.now.table in
+    let w : s.head.present < 18446744073709551616 = search rules in
+    ap (taking_refusal (signals_of t) (kinds_of t)) (returns-clause-bytes c)
+    ∙ is_taken (signals_of t) (kinds_of t) s.head (marks (vec_items t.statements)) (few_kinds t) (search rules) (search rules) (omega (arith, w))
+    s.faultless (record { many = marks_many t; each = s.legal }) s.finished
