@@ -1,13 +1,13 @@
 #![tactic(auto)]
 
-pub mod calls;
-pub mod events;
-pub mod keepers;
-pub mod listeners;
-pub mod news;
-pub mod relays;
-pub mod resumes;
-pub mod tellings;
+mod calls;
+mod events;
+mod keepers;
+mod listeners;
+mod news;
+mod relays;
+mod resumes;
+mod tellings;
 
 pub use calls::Call;
 pub use events::Event;
