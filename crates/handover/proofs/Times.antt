@@ -1,14 +1,10 @@
 -- how often numbers are in a list, written one after another
-use Rattle.std.proofs.Common.{◌≡◌, ℕ, ◌+◌, ◌++◌, ◌==◌, Bool, true, false, cond, List, [], ◌∷◌, refl, sym, ap, ap₂, ◌∙◌, append_assoc, add-one}
+use Rattle.std.proofs.Common.{◌≡◌, ℕ, ◌+◌, ◌==◌, cond, List, [], ◌∷◌, refl, sym, ap, ap₂, ◌∙◌}
 use Rattle.std.proofs.lemmas.Bool.{eq-eqb, ne_eqb}
-use Rattle.std.proofs.lemmas.Grind.{flat_map-append}
-use Rattle.std.proofs.lemmas.List.{append-nil}
 use Rattle.std.proofs.lemmas.List.Sums.{sum_by-cons}
 use Rattle.std.proofs.Math.Decide.{ℕ_discrete}
-use Rattle.std.specs.List.{count_by, flat_map}
-use Rattle.rules.specs.Model.{each_below}
+use Rattle.std.specs.List.{count_by}
 use Rattle.rules.specs.Runs.{count}
-use Rattle.handover.specs.Texts.{number_text, numbers_text}
 
 one_counted : (s k : ℕ) (d : Dec (s ≡ k)) → ◌≡◌ {A = ℕ} (cond (k == s) 1 0) (elim d [ yes p ↦ 1 | no q ↦ 0 ])
 one_counted s k (yes p) = ap (λ b. cond b 1 0) (eq-eqb k s (sym p))

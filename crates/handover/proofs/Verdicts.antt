@@ -1,14 +1,13 @@
 -- what two relays tell, and when their instants are the same
-use Rattle.std.proofs.Common.{◌≡◌, ℕ, zero, suc, ◌+◌, Bool, true, false, List, [], ◌∷◌, ◌++◌, length, take, drop, Some, refl, sym, ap, ap₂, ◌∙◌, arith}
-use Rattle.std.specs.Prelude.{slice_get, nat_eq}
+use Rattle.std.proofs.Common.{◌≡◌, ℕ, suc, ◌+◌, Bool, false, List, [], ◌∷◌, ◌++◌, length, take, drop, Some, refl, ap, ap₂, ◌∙◌, arith}
+use Rattle.std.specs.Prelude.{slice_get}
 use Rattle.std.specs.List.{flat_map}
 use Rattle.routine.specs.declared.kinds.Kind.{Kind}
 use Rattle.routine.specs.declared.kinds.SignalKind.{SignalKind}
-use Rattle.record.specs.Record.{record_of}
 use Rattle.relay.specs.Asked.{Asked}
 use Rattle.relay.specs.Heard.{Ear, Told, ToldAlike}
 use Rattle.relay.specs.History.{Past, takes_over}
-use Rattle.relay.specs.Promises.{Ended, taken, accepted, ended, SameInstants}
+use Rattle.relay.specs.Promises.{taken, ended}
 use Rattle.relay.specs.Relays.{Relays}
 use Rattle.relay.specs.declared.relays.Relayed.{Relayed}
 use Rattle.handover.specs.declared.tellings.Telling.{Telling}

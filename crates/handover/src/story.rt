@@ -73,8 +73,7 @@ fn tell_twice<A: Board + Drop, B: Board + Drop, C: Board + Drop, D: Board + Drop
     let mut l = Keeper::new(heap);
     let mut m = Keeper::new(heap);
     let mut n = Keeper::new(heap);
-    let (relayed, once_more, _) =
-        relay_twice(routine, plan, again, &mut k, &mut l, &mut m, &mut n);
+    let (relayed, once_more, _) = relay_twice(routine, plan, again, &mut k, &mut l, &mut m, &mut n);
     let first = tell_kept(heap, statements, k, &relayed.handed, l)?;
     let second = tell_kept(heap, statements, m, &once_more.handed, n)?;
     Ok(Tellings { first, second })

@@ -75,10 +75,8 @@ impl Telling {
         match event {
             Event::Stepped { statement } => self.stepped.push(*statement)?,
             Event::Refused { .. } => {}
-            Event::Begun { .. }
-            | Event::Closed { .. }
-            | Event::Reacted { .. }
-            | Event::TakenOver => self.stepped.clear(),
+            Event::Begun { .. } | Event::Closed { .. } | Event::Reacted { .. } | Event::TakenOver =>
+                self.stepped.clear(),
         }
         Ok(())
     }

@@ -1,13 +1,12 @@
 -- what is heard in a relay is as the model says, and in two of them the same words give the same instants
-use Rattle.std.proofs.Common.{◌≡◌, ℕ, ◌≤◌, Bool, false, List, [], ◌∷◌, ◌++◌, length, sym, refl, ap, ap₂, ◌∙◌, subst}
+use Rattle.std.proofs.Common.{◌≡◌, ◌≤◌, Bool, List, ◌∷◌, ◌++◌, length, sym, ap, ap₂, ◌∙◌, subst}
 use Rattle.std.proofs.lemmas.List.{append_cancel_left}
 use Rattle.routine.specs.declared.kinds.Kind.{Kind}
 use Rattle.routine.specs.declared.kinds.SignalKind.{SignalKind}
 use Rattle.rules.specs.Theorems.{Checked}
-use Rattle.record.specs.State.{State}
 use Rattle.count.specs.Calls.{new_state}
 use Rattle.relay.specs.Asked.{Asked}
-use Rattle.relay.specs.Heard.{Ear, Told, ToldAsModel, ToldAlike}
+use Rattle.relay.specs.Heard.{Ear, ToldAsModel, ToldAlike}
 use Rattle.relay.specs.History.{Past, takes_over, pasts, after_calls}
 use Rattle.relay.specs.Promises.{taken, AsModel}
 use Rattle.relay.specs.Relays.{Relays}

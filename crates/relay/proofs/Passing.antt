@@ -1,7 +1,6 @@
 -- a count that is handed over and goes on elsewhere
-use Rattle.std.proofs.Common.{◌≡◌, ℕ, ◌<◌, ◌≤◌, Bool, List, [], ◌∷◌, ◌++◌, length, vec_items, sym, ap, ap₂, ◌∙◌, subst}
+use Rattle.std.proofs.Common.{◌≡◌, ℕ, ◌<◌, ◌≤◌, Bool, List, [], ◌∷◌, ◌++◌, length, vec_items, ap, ap₂, ◌∙◌, subst}
 use Rattle.routine.specs.declared.kinds.Kind.{Kind}
-use Rattle.routine.specs.declared.kinds.Mark.{Mark}
 use Rattle.routine.specs.declared.kinds.SignalKind.{SignalKind}
 use Rattle.routine.specs.declared.checked.Routine.{Routine}
 use Rattle.routine.specs.Kinds.{marks}
@@ -12,14 +11,13 @@ use Rattle.record.specs.State.{State}
 use Rattle.record.specs.Sound.{Sound}
 use Rattle.record.specs.Record.{record_of}
 use Rattle.count.specs.declared.counts.Count.{Count}
-use Rattle.count.specs.declared.records.Released.{Released}
-use Rattle.count.specs.CountView.{kinds_of, signals_of, state_of, SameRoutine}
+use Rattle.count.specs.CountView.{kinds_of, signals_of, state_of}
 use Rattle.count.specs.Calls.{new_state}
 use Rattle.count.proofs.Sound.{legal}
 use Rattle.relay.specs.Asked.{Asked, take_over}
 use Rattle.relay.specs.Heard.{Ear, Grows, TellsAll}
 use Rattle.relay.specs.History.{takes_over, pasts, after_calls}
-use Rattle.relay.specs.Relays.{HandsOn, Relays, LeftAs, at_last}
+use Rattle.relay.specs.Relays.{HandsOn, Relays, LeftAs}
 use Rattle.relay.specs.declared.relays.Relayed.{Relayed}
 use Rattle.relay.proofs.Resumed.{grows_as, from_sound, left_from_sound}
 

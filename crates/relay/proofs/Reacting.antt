@@ -1,5 +1,5 @@
 -- a react that tells what it steps
-use Rattle.std.proofs.Common.{◌≡◌, ℕ, zero, suc, ◌+◌, ◌*◌, ◌≤◌, false, List, [], ◌∷◌, ◌++◌, length, Some, None, Option, Ok, Result, refl, sym, ap, ap₂, ◌∙◌, subst, arith}
+use Rattle.std.proofs.Common.{◌≡◌, ℕ, zero, suc, ◌≤◌, false, List, [], ◌∷◌, ◌++◌, length, Some, None, Option, Ok, sym, ap, ap₂, ◌∙◌, subst, arith}
 use Rattle.routine.specs.declared.kinds.Kind.{Kind}
 use Rattle.routine.specs.declared.kinds.SignalKind.{SignalKind}
 use Rattle.routine.specs.declared.refusals.Refusal.{Refusal}
@@ -13,7 +13,7 @@ use Rattle.count.specs.Calls.{after, begin_refusal, begin_state, react_closing, 
 use Rattle.count.specs.Traces.{Trace, Extends}
 use Rattle.relay.specs.Asked.{react}
 use Rattle.relay.specs.Heard.{Ear, Grows}
-use Rattle.relay.specs.History.{Past, reacts, if_accepted, past_of, after_call}
+use Rattle.relay.specs.History.{Past, reacts, if_accepted, past_of}
 
 one_more : (n : ℕ) (o : Option ℕ) (f : ℕ → List ℕ) → ((i : ℕ) → length (f i) ≤ n) → length (first_then o f) ≤ suc n
 one_more n None f h = omega arith

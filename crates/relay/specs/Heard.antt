@@ -13,7 +13,7 @@ use Rattle.count.specs.Calls.{new_state}
 use Rattle.count.specs.CountView.{kinds_of, signals_of, state_of, SameRoutine}
 use Rattle.relay.specs.declared.news.News.{News}
 use Rattle.relay.specs.declared.news.News.TheVariants.{Begun, Stepped, Closed, Reacted, TakenOver, Refused}
-use Rattle.relay.specs.Asked.{Asked, OfBytes, take_over}
+use Rattle.relay.specs.Asked.{Asked, OfBytes}
 use Rattle.relay.specs.History.{Past, begins, steps, closes, reacts, takes_over, refuses, past_of, after_call, pasts, after_calls}
 use Rattle.relay.specs.Promises.{taken, AsModel, SameInstants}
 

@@ -1,5 +1,5 @@
 -- what a relay gives back, and what its listeners hear
-use Rattle.std.specs.Prelude.{◌≡◌, ℕ, Bool, List, ◌∷◌, length, vec_items}
+use Rattle.std.specs.Prelude.{◌≡◌, Bool, List, ◌∷◌, length, vec_items}
 use Rattle.routine.specs.declared.kinds.Kind.{Kind}
 use Rattle.routine.specs.declared.kinds.Mark.{Mark}
 use Rattle.routine.specs.declared.kinds.SignalKind.{SignalKind}

@@ -70,7 +70,14 @@ fn midway(rt: HostRuntime) -> Result<(), Fail> {
     assert_eq!(rt; *closed, closing);
     assert_eq!(rt;
         marks.as_slice(),
-        [Mark::UnderWay, Mark::Idle, Mark::UnderWay, Mark::Idle, Mark::Done].as_slice()
+        [
+            Mark::UnderWay,
+            Mark::Idle,
+            Mark::UnderWay,
+            Mark::Idle,
+            Mark::Done
+        ]
+        .as_slice()
     );
     // The first board is as it was at the hand-over, and the second as it was left.
     assert!(rt; relayed.first.ask(0) && !relayed.second.ask(0));
@@ -95,10 +102,7 @@ fn resumed_elsewhere(rt: HostRuntime) -> Result<(), Fail> {
     );
     count.react(1)?;
     count.begin(0)?;
-    let earlier = [
-        Call::TakeOver { record: &[] },
-        Call::Step { statement: 4 },
-    ];
+    let earlier = [Call::TakeOver { record: &[] }, Call::Step { statement: 4 }];
     let later = [
         Call::TakeOver {
             record: &record[1..],

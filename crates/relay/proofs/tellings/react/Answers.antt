@@ -2,7 +2,7 @@ use Rattle.record.proofs.Lists.{few_kinds}
 use Rattle.count.specs.Calls.{begin_state}
 use Rattle.count.specs.CountView.{kinds_of, signals_of, state_of}
 use Rattle.count.specs.Traces.{row_trace}
-use Rattle.std.proofs.Common.{sym, ◌∙◌}
+use Rattle.std.proofs.Common.{◌∙◌}
 use Rattle.relay.proofs.Reacting.{all_heard, react_told}
 use Rattle.relay.proofs.tellings.react.Goals as goal
 
