@@ -31,30 +31,30 @@ pub fn forward<B: Board>(
 #[derive(Debug, Drop)]
 pub struct Moved<A, B: Board> {
     pub count: Count<B>,
-    pub record: [u8; 279],
+    pub handed: [u8; 279],
     pub left: A,
 }
 
 // The count on another board, by way of its record: its state is the same.
 pub fn change_board<A: Board, B: Board>(count: Count<A>, board: B) -> Moved<A, B>
-    ensures accepted { taking_refusal (signals_of count) (kinds_of count) result.record ≡ None }
-    ensures record { result.record ≡ record_of (length (signals_of count)) (length (kinds_of count)) (state_of A.present count) }
+    ensures accepted { taking_refusal (signals_of count) (kinds_of count) result.handed ≡ None }
+    ensures handed { result.handed ≡ record_of (length (signals_of count)) (length (kinds_of count)) (state_of A.present count) }
     ensures state { state_of B.present result.count ≡ state_of A.present count }
     ensures kinds { kinds_of result.count ≡ kinds_of count }
     ensures signals { signals_of result.count ≡ signals_of count }
     ensures left { result.left ≡ count.board }
 {
-    let mut record = [0; 279];
+    let mut handed = [0; 279];
     let Released {
         routine,
         board: left,
-    } = count.hand_over(&mut record);
+    } = count.hand_over(&mut handed);
     let mut count = Count::new(routine, board);
     // The record of a count is never refused, so there is nothing to tell of the answer.
-    let _ = count.take_over(&record);
+    let _ = count.take_over(&handed);
     Moved {
         count,
-        record,
+        handed,
         left,
     }
 }

@@ -120,7 +120,7 @@ fn handed_over(rt: HostRuntime) -> Result<(), Fail> {
     passes_on(&rt, StampBoard::new(), BitBoard::new())?;
     let count = halfway(every_kind(rt.alloc())?, BitBoard::new())?;
     let moved = change_board(count, StampBoard::new());
-    let handed = moved.record;
+    let handed = moved.handed;
     assert!(rt; handed == record(OPEN, OPEN_MARKS));
     assert!(rt; moved.left.ask(1));
     goes_on(&rt, moved.count)?;
@@ -143,7 +143,7 @@ fn handed_over_at_the_limits(rt: HostRuntime) -> Result<(), Fail> {
     count.react(0)?;
     count.begin(u64::MAX)?;
     let moved = change_board(count, StampBoard::new());
-    let handed = moved.record;
+    let handed = moved.handed;
     let mut count = moved.count;
     let mut expected = [2; 279];
     expected[..15].copy_from_slice(&[8, 0, 15, 0, 23, 0, 0, 1, 1, 1, 0, 0, 0, 0, 0]);
