@@ -10,7 +10,8 @@ use crate::tables::Table;
 use arrayvec::ArrayVec;
 use std::alloc::Global;
 
-// What a table's bytes say, on the stack: it is tested before memory is asked for, so that want of it hides no refusal.
+// What a table's bytes say, on the stack: it is tested before memory is asked for, so that want
+// of it hides no refusal.
 #[derive(Debug, Drop)]
 pub(crate) struct Draft {
     pub(crate) signals: ArrayVec<SignalKind, 64>,

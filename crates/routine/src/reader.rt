@@ -129,7 +129,8 @@ pub(crate) fn read_draft(bytes: &[u8]) -> Result<Draft, Refusal>
     })
 }
 
-// The table that the bytes say, or why they are none. The bytes may be any. Want of memory comes only where they are one.
+// The table that the bytes say, or why they are none. The bytes may be any. Want of memory comes
+// only where they are one.
 pub fn read(heap: Global, bytes: &[u8]) -> Result<Table, Refusal>
     ensures { AnswersOrMemory (read_of bytes.now) content result }
 {

@@ -33,7 +33,8 @@ impl Rows<'_> {
         self.signals.get(signal).copied()
     }
 
-    // Statement i, one level of its tree, and where its parts lie. From the count on it counts as nothing.
+    // Statement i, one level of its tree, and where its parts lie. From the count on it counts
+    // as nothing.
     pub(crate) fn kind(&self, i: usize) -> Kind
         ensures value { result ≡ kind_at (lent_kinds self.now) i }
         ensures rise { PartsRise (lent_count self.now) i (shape result) }

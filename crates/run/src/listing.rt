@@ -29,7 +29,8 @@ fn write_lines<B: Board>(
     Ok(())
 }
 
-// What there is to print of the input's bytes. A table that is no routine is refused whatever memory there is.
+// What there is to print of the input's bytes. A table that is no routine is refused whatever memory
+// there is.
 pub fn listing(heap: Global, bytes: &[u8]) -> Result<Printed, AllocError>
     ensures { SaysOrMemory (listing_of bytes.now) said result }
 {

@@ -4,8 +4,8 @@ ghost use Rattle.tablecheck.specs.Printed.{printed_text};
 use routine::{Reason, Refusal};
 use std::fmt;
 
-// What there is to print of a table: the two lines of its refusal, for which no memory is wanted, or the text of
-// the routine that it is.
+// What there is to print of a table: the two lines of its refusal, for which no memory is wanted,
+// or the text of the routine that it is.
 #[derive(Debug, Drop)]
 pub enum Printed {
     Refused { refusal: Refusal },

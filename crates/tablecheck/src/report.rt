@@ -44,7 +44,8 @@ impl fmt::Display for Census {
     }
 }
 
-// What there is to say of a table's bytes: the routine that they are, or why they are none, whatever memory there is.
+// What there is to say of a table's bytes: the routine that they are, or why they are none,
+// whatever memory there is.
 pub fn report(heap: Global, bytes: &[u8]) -> Result<Printed, AllocError>
     ensures { SaysOrMemory (report_of bytes.now) said result }
 {
