@@ -309,9 +309,9 @@ fn last_instant(rt: HostRuntime) -> Result<(), Fail> {
     Ok(())
 }
 
-// A record read and written without a count.
+// A record read without a count.
 #[test]
-fn read_and_written(rt: HostRuntime) -> Result<(), Fail> {
+fn read_alone(rt: HostRuntime) -> Result<(), Fail> {
     let routine = every_kind(rt.alloc())?;
     let Saved { head, marks } = record::read(&record(OPEN, OPEN_MARKS), &routine)?;
     let expected = Head {
@@ -325,6 +325,5 @@ fn read_and_written(rt: HostRuntime) -> Result<(), Fail> {
     assert!(rt; marks[..3] == first[..]);
     let last = [Mark::Done, Mark::Idle];
     assert!(rt; marks[12..14] == last[..]);
-    assert!(rt; record::write(&head, &routine) == record(OPEN, [0; 13]));
     Ok(())
 }
