@@ -49,23 +49,30 @@ fn midway(rt: HostRuntime) -> Result<(), Fail> {
     let (relayed, _) = relay(routine, plan, &mut one, &mut other);
     let before = one.events()?;
     let later = other.events()?;
-    assert!(rt; matches!(before[0], Event::Reacted { word: 0, .. }));
-    assert!(rt; stepped(&before[2], 1));
-    assert_eq!(rt; (before.len(), later.len()), (3, 6));
-    assert!(rt; matches!(later[0], Event::TakenOver));
-    assert!(rt; refused(&later[1], Refusal::NotReady { statement: 1 }));
+    let [Event::Reacted { word: 0, .. }, _, step] = before.as_slice() else {
+        return Err(Fail::new("other events on the first board"));
+    };
+    assert!(rt; stepped(step, 1));
+    let [
+        Event::TakenOver,
+        again,
+        _,
+        _,
+        _,
+        Event::Closed {
+            closing: closed,
+            marks,
+        },
+    ] = later.as_slice()
+    else {
+        return Err(Fail::new("other events on the second board"));
+    };
+    assert!(rt; refused(again, Refusal::NotReady { statement: 1 }));
     let closing = Closing {
         instant: 2,
         outputs: 2,
         status: Status::Suspended,
         steps: 4,
-    };
-    let Event::Closed {
-        closing: closed,
-        marks,
-    } = &later[5]
-    else {
-        return Err(Fail::new("another event"));
     };
     assert_eq!(rt; *closed, closing);
     assert_eq!(rt;
@@ -113,13 +120,14 @@ fn resumed_elsewhere(rt: HostRuntime) -> Result<(), Fail> {
     let mut keeper = Keeper::new(rt.alloc());
     resume(&mut count, &earlier, &record, &later, &mut keeper);
     let events = keeper.events()?;
-    assert_eq!(rt; events.len(), 6);
-    assert!(rt; refused(&events[0], Refusal::RecordForm));
-    assert!(rt; refused(&events[1], Refusal::NotReady { statement: 4 }));
-    assert!(rt; matches!(events[2], Event::TakenOver));
-    assert!(rt; refused(&events[3], Refusal::RecordForm));
-    assert!(rt; stepped(&events[4], 0));
-    assert!(rt; refused(&events[5], Refusal::AlreadyOpen));
+    let [a, b, Event::TakenOver, c, d, e] = events.as_slice() else {
+        return Err(Fail::new("other events"));
+    };
+    assert!(rt; refused(a, Refusal::RecordForm));
+    assert!(rt; refused(b, Refusal::NotReady { statement: 4 }));
+    assert!(rt; refused(c, Refusal::RecordForm));
+    assert!(rt; stepped(d, 0));
+    assert!(rt; refused(e, Refusal::AlreadyOpen));
     assert_eq!(rt; (count.closed(), count.steps()), (0, 2));
     Ok(())
 }
@@ -134,8 +142,8 @@ fn react_is_told(rt: HostRuntime) -> Result<(), Fail> {
     let mut keeper = Keeper::new(rt.alloc());
     relay::carry_out_all(&mut count, &[Call::React { word: 1 }], &mut keeper);
     let events = keeper.events()?;
-    let Event::Reacted { stepped, .. } = &events[0] else {
-        return Err(Fail::new("another event"));
+    let [Event::Reacted { stepped, .. }] = events.as_slice() else {
+        return Err(Fail::new("other events"));
     };
     assert_eq!(rt; stepped.as_slice(), [1, 0, 3, 2].as_slice());
     Ok(())
