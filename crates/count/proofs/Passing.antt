@@ -13,10 +13,31 @@ use Rattle.record.proofs.Kept.{kept}
 use Rattle.record.proofs.Restored.{restored}
 use Rattle.record.specs.Trips.{SameBytes}
 use Rattle.record.proofs.Lists.{few_kinds}
+use Rattle.signals.specs.declared.board.Board.{Ghosts}
+use Rattle.record.specs.Phases.{is_open}
+use Rattle.count.specs.declared.counts.Count.{Count}
 use Rattle.count.specs.declared.rows.Rows.{Rows}
+use Rattle.count.specs.CountView.{kinds_of, signals_of, state_of}
+use Rattle.count.proofs.Sound.{legal}
 use Rattle.count.specs.View.{kinds_in, signals_in}
 use Rattle.count.specs.Calls.{after}
 use Rattle.count.proofs.TakenOver.{few_signals}
+
+-- a count's state is sound
+module _ {B : Type 0} {G : Ghosts B} (size : (b : B) → length (G.present b) ≡ 64) (d : Count B G) (closed : d.closed < 4294967296) (steps : d.steps < 65536) where
+  pub sound_count : Sound (signals_of d) (kinds_of d) (state_of G.present d)
+  sound_count =
+      record {
+        legal = legal d.rows (is_open d.phase) d.legal;
+        finished = d.finished;
+        calm = d.calm;
+        still = d.still;
+        within = d.within;
+        sized = size d.board;
+        room = d.room;
+        closed_fits = closed;
+        steps_fit = steps;
+      }
 
 -- what was taken over is written again as the same bytes
 module _ (gs hs : List SignalKind) (ks ls : List Kind) (s t : State) (bytes place : List ℕ) (n : length ks ≤ 256) (g : length gs ≤ 64) (small : (i : ℕ) → get_or bytes i 0 < 256)

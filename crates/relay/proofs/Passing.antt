@@ -1,41 +1,23 @@
 -- a count that is handed over and goes on elsewhere
-use Rattle.std.proofs.Common.{◌≡◌, ℕ, ◌<◌, ◌≤◌, Bool, List, [], ◌∷◌, ◌++◌, length, vec_items, ap, ap₂, ◌∙◌, subst}
+use Rattle.std.proofs.Common.{◌≡◌, ℕ, ◌≤◌, Bool, List, [], ◌∷◌, ◌++◌, length, vec_items, ap, ap₂, ◌∙◌, subst}
 use Rattle.routine.specs.declared.kinds.Kind.{Kind}
 use Rattle.routine.specs.declared.kinds.SignalKind.{SignalKind}
 use Rattle.routine.specs.declared.checked.Routine.{Routine}
 use Rattle.routine.specs.Kinds.{marks}
 use Rattle.routine.specs.View.{kinds_of as kinds_read, signals_of as signals_read}
 use Rattle.signals.specs.declared.board.Board.{Ghosts}
-use Rattle.record.specs.Phases.{is_open}
 use Rattle.record.specs.State.{State}
 use Rattle.record.specs.Sound.{Sound}
 use Rattle.record.specs.Record.{record_of}
 use Rattle.count.specs.declared.counts.Count.{Count}
 use Rattle.count.specs.CountView.{kinds_of, signals_of, state_of}
 use Rattle.count.specs.Calls.{new_state}
-use Rattle.count.proofs.Sound.{legal}
 use Rattle.relay.specs.Asked.{Asked, take_over}
 use Rattle.relay.specs.Heard.{Ear, Grows, TellsAll}
 use Rattle.relay.specs.History.{takes_over, pasts, after_calls}
-use Rattle.relay.specs.Relays.{HandsOn, Relays, LeftAs}
+use Rattle.relay.specs.Relays.{HandsOn, Relays, LeftAs, at_last}
 use Rattle.relay.specs.declared.relays.Relayed.{Relayed}
 use Rattle.relay.proofs.Resumed.{grows_as, from_sound, left_from_sound}
-
--- a count's state is one of a count
-module _ {B : Type 0} {G : Ghosts B} (size : (b : B) → length (G.present b) ≡ 64) (d : Count B G) (closed : d.closed < 4294967296) (steps : d.steps < 65536) where
-  pub sound_count : Sound (signals_of d) (kinds_of d) (state_of G.present d)
-  sound_count =
-      record {
-        legal = legal d.rows (is_open d.phase) d.legal;
-        finished = d.finished;
-        calm = d.calm;
-        still = d.still;
-        within = d.within;
-        sized = size d.board;
-        room = d.room;
-        closed_fits = closed;
-        steps_fit = steps;
-      }
 
 -- (of a routine) a state that is handed on by its record, to a count of the same routine that is at u
 module _ (gs : List SignalKind) (ks : List Kind) (few : length ks ≤ 256) (some : length gs ≤ 64) (s : State) (S : Sound gs ks s) (bytes : List ℕ)
@@ -75,31 +57,27 @@ module _ (gs : List SignalKind) (ks : List Kind) (few : length ks ≤ 256) (some
           marks = ap (λ (x : Routine). marks (vec_items x.table.statements)) e ∙ ap (λ (x : State). x.marks) left_at;
         }
 
--- a relay: the calls on the first board led to s
-module _ (gs : List SignalKind) (ks : List Kind) (cs ds : List Asked) where
-  pub before_told : (xs : List SignalKind) (ys : List Kind) (s : State) (old new : Ear) → xs ≡ gs → ys ≡ ks → s ≡ new_state ks → Grows old new (pasts xs ys s cs)
-      → Grows old new (pasts gs ks (new_state ks) cs)
-  before_told xs ys s old new e f i h =
-      grows_as old new _ _ h (ap₂ (λ (x : List SignalKind) (y : List Kind). pasts x y s cs) e f ∙ ap (λ (q : State). pasts gs ks q cs) i)
+-- a relay: a new count, at s, of the routine gs ks as xs ys; the calls cs, which led to t; and its hand-over
+module _ {A B : Type 0} (first : A → List Bool) (second : B → List Bool) (gs xs us : List SignalKind) (ks ys vs : List Kind) (cs ds : List Asked) (s t : State) (old new old' new' : Ear)
+    (e : xs ≡ gs) (f : ys ≡ ks) (i : s ≡ new_state ks) (e2 : us ≡ xs) (f2 : vs ≡ ys) (told : Grows old new (pasts xs ys s cs)) (leaves : t ≡ after_calls xs ys s cs)
+    (r : Relayed A B) (q : Routine) where
+  midway : t ≡ after_calls gs ks (new_state ks) cs
+  midway = leaves ∙ ap₂ (λ (x : List SignalKind) (y : List Kind). after_calls x y s cs) e f ∙ ap (λ (u : State). after_calls gs ks u cs) i
 
-  pub midway_is : (xs : List SignalKind) (ys : List Kind) (s t : State) → xs ≡ gs → ys ≡ ks → s ≡ new_state ks → t ≡ after_calls xs ys s cs → t ≡ after_calls gs ks (new_state ks) cs
-  midway_is xs ys s t e f i h =
-      h ∙ ap₂ (λ (x : List SignalKind) (y : List Kind). after_calls x y s cs) e f ∙ ap (λ (q : State). after_calls gs ks q cs) i
-
-  pub hands_on_as : {A B : Type 0} (first : A → List Bool) (second : B → List Bool) (xs : List SignalKind) (ys : List Kind) (t u : State) (old new : Ear) (r : Relayed A B)
-      → xs ≡ gs → ys ≡ ks → t ≡ u → HandsOn first second xs ys t ds old new r → HandsOn first second gs ks u ds old new r
-  hands_on_as first second xs ys t u old new r e f i h =
-      subst (λ (q : State). HandsOn first second gs ks q ds old new r) i
-      (subst (λ (y : List Kind). HandsOn first second gs y t ds old new r) f (subst (λ (x : List SignalKind). HandsOn first second x ys t ds old new r) e h))
-
-  pub left_as : (xs : List SignalKind) (ys : List Kind) (t u : State) (r : Routine) → xs ≡ gs → ys ≡ ks → t ≡ u → LeftAs xs ys (after_calls xs ys t ds).marks r
-      → LeftAs gs ks (after_calls gs ks u ds).marks r
-  left_as xs ys t u r e f i h =
-      record {
-        signals = h.signals ∙ e;
-        kinds = h.kinds ∙ f;
-        marks = h.marks ∙ ap (λ (q : State). q.marks) (ap₂ (λ (x : List SignalKind) (y : List Kind). after_calls x y t ds) e f ∙ ap (λ (q : State). after_calls gs ks q ds) i);
-      }
+  pub relayed : HandsOn first second us vs t ds old' new' r → LeftAs us vs (after_calls us vs t ds).marks q
+      → Relays first second gs ks cs ds old new old' new' r × LeftAs gs ks (at_last gs ks cs ds).marks q
+  relayed h l = (
+    record {
+      before = grows_as old new _ _ told (ap₂ (λ (x : List SignalKind) (y : List Kind). pasts x y s cs) e f ∙ ap (λ (u : State). pasts gs ks u cs) i);
+      hands_on = subst (λ (u : State). HandsOn first second gs ks u ds old' new' r) midway
+          (subst (λ (y : List Kind). HandsOn first second gs y t ds old' new' r) (f2 ∙ f) (subst (λ (x : List SignalKind). HandsOn first second x vs t ds old' new' r) (e2 ∙ e) h));
+    },
+    record {
+      signals = l.signals ∙ e2 ∙ e;
+      kinds = l.kinds ∙ f2 ∙ f;
+      marks = l.marks ∙ ap (λ (u : State). u.marks) (ap₂ (λ (x : List SignalKind) (y : List Kind). after_calls x y t ds) (e2 ∙ e) (f2 ∙ f) ∙ ap (λ (u : State). after_calls gs ks u ds) midway);
+    },
+  )
 
 -- the second relay has the routine that the first gave back
 pub same_relay : {A B : Type 0} (first : A → List Bool) (second : B → List Bool) (gs xs : List SignalKind) (ks ys : List Kind) (cs ds : List Asked) (old new old' new' : Ear) (r : Relayed A B)

@@ -1,38 +1,18 @@
-use Rattle.std.proofs.Common.{◌≡◌, ◌<◌, length, ap, ◌∙◌, rules}
+use Rattle.std.proofs.Common.{ap, ◌∙◌, rules}
 use Rattle.routine.specs.declared.checked.Routine.{Routine}
 use Rattle.routine.specs.View.{kinds_of as kinds_read, signals_of as signals_read}
-use Rattle.signals.specs.declared.board.Board.{Ghosts}
-use Rattle.count.specs.declared.counts.Count.{Count}
-use Rattle.record.specs.Sound.{Sound}
 use Rattle.record.proofs.Lists.{few_kinds}
 use Rattle.count.specs.CountView.{kinds_of, signals_of, state_of}
-use Rattle.count.proofs.Sound.{legal}
-use Rattle.record.specs.Phases.{is_open}
 use Rattle.count.proofs.TakenOver.{few_signals}
-use Rattle.count.proofs.Passing.{comes_back, is_accepted}
+use Rattle.count.proofs.Passing.{comes_back, is_accepted, sound_count}
 use Rattle.count.proofs.trips.change_board.Goals as goal
-
-module _ {B : Type 0} {G : Ghosts B} (size : (b : B) → length (G.present b) ≡ 64) (d : Count B G) (closed : d.closed < 4294967296) (steps : d.steps < 65536) where
-  pub sound : Sound (signals_of d) (kinds_of d) (state_of G.present d)
-  sound =
-      record {
-        legal = legal d.rows (is_open d.phase) d.legal;
-        finished = d.finished;
-        calm = d.calm;
-        still = d.still;
-        within = d.within;
-        sized = size d.board;
-        room = d.room;
-        closed_fits = closed;
-        steps_fit = steps;
-      }
 
 pub returns-clause-accepted : goal.returns-clause-accepted
 returns-clause-accepted g c =
     let d = c.args.count in
     let present = g.A.Board.present in
     is_accepted (signals_of d) (kinds_of d) (state_of present d) _ (few_kinds d.rows.routine.table) (few_signals d.rows)
-    (sound g.met.A.Board.size d (search rules) (search rules)) c.hand_over-routine.ensures.record
+    (sound_count g.met.A.Board.size d (search rules) (search rules)) c.hand_over-routine.ensures.record
 
 pub returns-clause-state : goal.returns-clause-state
 returns-clause-state g c =
@@ -41,4 +21,4 @@ returns-clause-state g c =
     let n = c.new-count.ensures in
     let h = c.hand_over-routine.ensures in
     comes_back (signals_of d) _ (kinds_of d) _ (state_of present d) _ _ _ (few_kinds d.rows.routine.table) (few_signals d.rows)
-    (sound g.met.A.Board.size d (search rules) (search rules)) h.record (n.signals ∙ ap (λ (r : Routine). signals_read r.table) h.routine) (n.kinds ∙ ap (λ (r : Routine). kinds_read r.table) h.routine) c.take_over.ensures.leaves
+    (sound_count g.met.A.Board.size d (search rules) (search rules)) h.record (n.signals ∙ ap (λ (r : Routine). signals_read r.table) h.routine) (n.kinds ∙ ap (λ (r : Routine). kinds_read r.table) h.routine) c.take_over.ensures.leaves

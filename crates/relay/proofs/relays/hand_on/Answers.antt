@@ -6,13 +6,19 @@ use Rattle.record.specs.State.{State}
 use Rattle.count.specs.CountView.{kinds_of, signals_of, state_of}
 use Rattle.count.proofs.TakenOver.{few_signals}
 use Rattle.relay.specs.Asked.{asked}
-use Rattle.relay.proofs.Passing.{sound_count, later_told, left_at, left_record, left_routine}
+use Rattle.count.proofs.Passing.{sound_count}
+use Rattle.relay.proofs.Passing.{later_told, left_at, left_record, left_routine}
 use Rattle.relay.proofs.relays.hand_on.Goals as goal
 
-pub returns-clause-tells : goal.returns-clause-tells
-returns-clause-tells g c =
+pub returns : goal.returns
+returns g c =
     let a = c.args.count in
-    let present = g.A.Board.present in
+    let A = g.A.Board.present in
+    let B = g.B.Board.present in
+    let gs = signals_of a in
+    let ks = kinds_of a in
+    let s = state_of A a in
+    let ds = map asked c.args.later.now in
     let h = c.hand_over-released.ensures in
     let n = c.new-count.ensures in
     let e = n.signals ∙ ap (λ (r : Routine). signals_read r.table) h.routine in
@@ -20,26 +26,17 @@ returns-clause-tells g c =
     let S = sound_count g.met.A.Board.size a (search rules) (search rules) in
     let k = few_kinds a.rows.routine.table in
     let m = few_signals a.rows in
-    let ds = map asked c.args.later.now in
     let b = c.new-count.result in
     let d = c.resume.new.count in
     let t = c.resume.ensures.tells in
+    let l = c.hand_over-released-2.ensures in
     record {
-      handed = h.record;
-      later = later_told (signals_of a) (kinds_of a) k m (state_of present a) S _ h.record ds g.B.Board.present b d e f _ _ t;
-      left = left_record (signals_of a) (kinds_of a) k m (state_of present a) S _ h.record ds g.B.Board.present b d e f _ _ t _ c.hand_over-released-2.ensures.record;
-      first_board = ap present h.board;
-      second_board = ap g.B.Board.present c.hand_over-released-2.ensures.board
-          ∙ ap (λ (x : State). x.present) (left_at (signals_of a) (kinds_of a) k m (state_of present a) S _ h.record ds g.B.Board.present b d e f _ _ t);
+      tells = record {
+          handed = h.record;
+          later = later_told gs ks k m s S _ h.record ds B b d e f _ _ t;
+          left = left_record gs ks k m s S _ h.record ds B b d e f _ _ t _ l.record;
+          first_board = ap A h.board;
+          second_board = ap B l.board ∙ ap (λ (x : State). x.present) (left_at gs ks k m s S _ h.record ds B b d e f _ _ t);
+        };
+      routine = left_routine gs ks k m s S _ h.record ds B b d e f _ _ t _ l.routine;
     }
-
-pub returns-clause-routine : goal.returns-clause-routine
-returns-clause-routine g c =
-    let a = c.args.count in
-    let present = g.A.Board.present in
-    let h = c.hand_over-released.ensures in
-    let n = c.new-count.ensures in
-    left_routine (signals_of a) (kinds_of a) (few_kinds a.rows.routine.table) (few_signals a.rows) (state_of present a)
-    (sound_count g.met.A.Board.size a (search rules) (search rules)) _ h.record (map asked c.args.later.now) g.B.Board.present c.new-count.result c.resume.new.count
-    (n.signals ∙ ap (λ (r : Routine). signals_read r.table) h.routine) (n.kinds ∙ ap (λ (r : Routine). kinds_read r.table) h.routine) _ _ c.resume.ensures.tells
-    _ c.hand_over-released-2.ensures.routine
