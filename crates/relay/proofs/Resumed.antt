@@ -15,7 +15,7 @@ use Rattle.count.specs.Calls.{after, new_state}
 use Rattle.count.specs.CountView.{kinds_of, signals_of, state_of}
 use Rattle.relay.specs.Asked.{Asked, take_over}
 use Rattle.relay.specs.History.{Past, takes_over, if_accepted, past_of, after_call, pasts, after_calls}
-use Rattle.relay.specs.Heard.{Ear, Grows, Tells, TellsAll, GoesOn, StaysWhereRefused}
+use Rattle.relay.specs.Heard.{Ear, Grows, TellsAll, GoesOn, StaysWhereRefused}
 use Rattle.relay.proofs.Histories.{pasts_append, after_append}
 use Rattle.relay.proofs.Reached.{sound_start, sound_calls}
 
@@ -69,7 +69,7 @@ module _ (gs : List SignalKind) (ks : List Kind) where
 
 module _ {B : Type 0} {G : Ghosts B} (present : B → List Bool) where
   -- calls told after others
-  pub told_after : (a b c : Count B G) (cs ds : List Asked) (x y z : Ear) → TellsAll present a b cs x y → TellsAll present b c ds y z → TellsAll present a c (cs ++ ds) x z
+  told_after : (a b c : Count B G) (cs ds : List Asked) (x y z : Ear) → TellsAll present a b cs x y → TellsAll present b c ds y z → TellsAll present a c (cs ++ ds) x z
   told_after a b c cs ds x y z p q =
       let gs = signals_of a in
       let ks = kinds_of a in
@@ -85,13 +85,8 @@ module _ {B : Type 0} {G : Ghosts B} (present : B → List Bool) where
         routine = record { kinds = q.routine.kinds ∙ e.kinds; signals = q.routine.signals ∙ e.signals };
       }
 
-  -- one call is a list of one
-  told_one : (a b : Count B G) (c : Asked) (x y : Ear) → Tells present a b c x y → TellsAll present a b (c ∷ []) x y
-  unfolding pasts after_calls
-  told_one a b c x y p = record { tells = p.tells; leaves = p.leaves; routine = p.routine }
-
   pub resumed : (a b c d : Count B G) (earlier : List Asked) (bytes : List ℕ) (later : List Asked) (w x y z : Ear)
-      → TellsAll present a b earlier w x → Tells present b c (take_over bytes) x y → TellsAll present c d later y z
+      → TellsAll present a b earlier w x → TellsAll present b c (take_over bytes ∷ []) x y → TellsAll present c d later y z
       → TellsAll present a d (earlier ++ (take_over bytes ∷ later)) w z
   resumed a b c d earlier bytes later w x y z p q r =
-      told_after a b d earlier (take_over bytes ∷ later) w x z p (told_after b c d (take_over bytes ∷ []) later x y z (told_one b c (take_over bytes) x y q) r)
+      told_after a b d earlier (take_over bytes ∷ later) w x z p (told_after b c d (take_over bytes ∷ []) later x y z q r)

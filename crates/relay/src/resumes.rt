@@ -5,7 +5,7 @@ ghost use Rattle.relay.specs.Heard.{TellsAll, GoesOn, StaysWhereRefused};
 
 use crate::calls::Call;
 use crate::listeners::Listener;
-use crate::tellings::{carry_out_all, take_over};
+use crate::tellings::carry_out_all;
 use count::Count;
 use signals::Board;
 
@@ -23,6 +23,6 @@ pub fn resume<B: Board, L: Listener>(
     ensures refused { StaysWhereRefused (signals_of count.old) (kinds_of count.old) (state_of B.present count.old) (map asked earlier.now) handed.now (map asked later.now) (L.ear listener.old) (L.ear listener.new) }
 {
     carry_out_all(count, earlier, listener);
-    take_over(count, handed, listener);
+    carry_out_all(count, &[Call::TakeOver { record: handed }], listener);
     carry_out_all(count, later, listener);
 }

@@ -54,11 +54,7 @@ fn react<B: Board, L: Listener>(count: &mut Count<B>, word: u64, listener: &mut 
     }
 }
 
-pub(crate) fn take_over<B: Board, L: Listener>(
-    count: &mut Count<B>,
-    handed: &[u8],
-    listener: &mut L,
-)
+fn take_over<B: Board, L: Listener>(count: &mut Count<B>, handed: &[u8], listener: &mut L)
     ensures { Tells B.present count.old count.new (take_over handed.now) (L.ear listener.old) (L.ear listener.new) }
 {
     match count.take_over(handed) {

@@ -10,9 +10,9 @@ use Rattle.relay.proofs.resumes.resume.Goals as goal
 abbrev tells : goal.returns-clause-tells
 tells g c =
     let ear = g.L.Listener.ear in
-    resumed g.B.Board.present c.args.count.now c.carry_out_all.new.count c.take_over.new.count c.carry_out_all-2.new.count (map asked c.args.earlier.now) c.args.handed.now (map asked c.args.later.now)
-    (ear c.args.listener.now) (ear c.carry_out_all.new.listener) (ear c.take_over.new.listener) (ear c.carry_out_all-2.new.listener)
-    c.carry_out_all.ensures c.take_over.ensures c.carry_out_all-2.ensures
+    resumed g.B.Board.present c.args.count.now c.carry_out_all.new.count c.carry_out_all-2.new.count c.carry_out_all-3.new.count (map asked c.args.earlier.now) c.args.handed.now (map asked c.args.later.now)
+    (ear c.args.listener.now) (ear c.carry_out_all.new.listener) (ear c.carry_out_all-2.new.listener) (ear c.carry_out_all-3.new.listener)
+    c.carry_out_all.ensures c.carry_out_all-2.ensures c.carry_out_all-3.ensures
 
 pub returns-clause-tells : goal.returns-clause-tells
 returns-clause-tells g c = tells g c
