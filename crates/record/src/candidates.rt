@@ -11,7 +11,8 @@ use crate::marks;
 use crate::phases::Phase;
 use routine::{Kind, Mark, Routine};
 
-// Marks that a record gives to a routine's statements, none where its byte is none; whether they are legal is not known yet.
+// Marks that a record gives to a routine's statements, none where a byte is none. Whether they are
+// legal is not known yet.
 #[derive(Drop)]
 pub(crate) struct Candidate<'a> {
     pub(crate) routine: &'a Routine,

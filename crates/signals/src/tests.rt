@@ -44,7 +44,8 @@ fn stamp_board(rt: HostRuntime) {
     exercise(&rt, &mut StampBoard::new());
 }
 
-// The next wipe wraps around. Every signal has the stamp 1, and would be present again if that wipe left the stamps.
+// The next wipe wraps around. Every signal has the stamp 1, and would be present again if that wipe
+// left the stamps as they are.
 fn at_last_stamp() -> StampBoard {
     StampBoard {
         stamps: [1; 64],
