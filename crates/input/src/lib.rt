@@ -1,6 +1,6 @@
 #![tactic(auto)]
 
-pub mod printed;
+mod printed;
 
 ghost use Rattle.std.specs.Prelude.{◌≡◌};
 ghost use Rattle.input.specs.Input.{table_part, rest_part};

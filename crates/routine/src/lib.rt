@@ -1,16 +1,16 @@
 #![tactic(auto)]
 
-pub mod checked;
-pub mod checker;
+mod checked;
+mod checker;
 mod drafts;
-pub mod kinds;
-pub mod loader;
-pub mod questions;
-pub mod reader;
-pub mod reasons;
-pub mod refusals;
+mod kinds;
+mod loader;
+mod questions;
+mod reader;
+mod reasons;
+mod refusals;
 mod rows;
-pub mod tables;
+mod tables;
 
 pub use checked::Routine;
 pub use checker::check;
