@@ -19,11 +19,11 @@ use Rattle.rules.proofs.Table.{in_under, under_in}
 use Rattle.rules.proofs.Tests.{Table}
 use Rattle.rules.proofs.Checked.{table}
 use Rattle.rules.proofs.Lowest.{lowest_first, by_rule}
-use Rattle.count.specs.Machine.{heard}
+use Rattle.count.specs.Machine.{own_signal_present}
 use Rattle.count.specs.Front.{entry, Guards, Waiters, front_after, QuietBelow}
 use Rattle.count.proofs.Aside.{rule_stays}
 use Rattle.count.proofs.Within.{own_rests}
-use Rattle.count.proofs.Woken.{rule_heard, heard_raised, front_waits}
+use Rattle.count.proofs.Woken.{rule_by_signal, signal_raised, front_waits}
 
 front_low : (r : Shape) (ws : List ℕ) (was : Bool) (b k : ℕ) → k ≤ b → front_after r ws was b k ≤ b
 front_low (no_part nothing) ws was b k l = omega arith
@@ -50,9 +50,9 @@ module _ (gs : List SignalKind) (ks : List Kind) (C : Checked gs ks) where
 
   -- after the step of the lowest ready statement no rule applies below the new front, but maybe that of its guard
   pub quiet_after : (vs ws : List ℕ) → Guards ks vs → Waiters ks ws → (ms : List Mark) (e : Signals) (was : Bool) (f g i : ℕ) → length ms ≡ length ks → QuietBelow ks ms e f g
-      → was ≡ heard (tree_at ks i) e → Some i ≡ lowest (ready (tree_at ks 0) ms e) (length ks)
+      → was ≡ own_signal_present (tree_at ks i) e → Some i ≡ lowest (ready (tree_at ks 0) ms e) (length ks)
       → QuietBelow ks (fire (tree_at ks i) ms) (apply (effect_of (tree_at ks i)) e) (front_after (shape_at ks i) ws was (max f i) i) (entry vs i)
-  quiet_after vs ws G W ms e was f g i lm c here o =
+  quiet_after vs ws G W ms e was f g i lm c was_present o =
       let P = λ (j : ℕ). rule (tree_at ks j) ms e in
       let n = length ks in
       let w : lowest P n ≡ Some i = by_rule gs ks C ms e ∙ sym o in
@@ -97,9 +97,9 @@ module _ (gs : List SignalKind) (ks : List Kind) (C : Checked gs ks) where
               let lj : j < length ks = omega arith in
               let x = unroll ks S j lj in
               subst (λ t. rule t (fire (tree_at ks i) ms) (apply (effect_of (tree_at ks i)) e) ≡ false) (sym x)
-              (rule_heard j (shape_at ks j) (tree_at ks) (fire (tree_at ks i) ms) e (effect_of (tree_at ks i))
+              (rule_by_signal j (shape_at ks j) (tree_at ks) (fire (tree_at ks i) ms) e (effect_of (tree_at ks i))
               (λ s a absent z.
-              let absent_before : was ≡ false = here ∙ heard_raised (tree_at ks i) e s z ∙ absent in
+              let absent_before : was ≡ false = was_present ∙ signal_raised (tree_at ks i) e s z ∙ absent in
               let y = front_waits i (shape_at ks i) (tree_at ks) ws (max f i) i s (ap effect_of (sym (unroll ks S i li)) ∙ z) in
               let y' : front_after (shape_at ks i) ws was (max f i) i ≤ entry ws s
               = subst (λ (b : Bool). front_after (shape_at ks i) ws b (max f i) i ≤ entry ws s) (sym absent_before) y in

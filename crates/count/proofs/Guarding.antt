@@ -50,20 +50,20 @@ module _ (ks : List Kind) (S : Rising ks) (O : Once ks) (few : length ks ≤ 256
         get_or-set_same (set vs a x) b y 0 (omega arith),
       )
 
-  here : (vs : List ℕ) (i : ℕ) (r : Shape) → length vs ≡ 256 → ((a : ℕ) → Part r a → (i < a) × (a < length ks))
+  at_row : (vs : List ℕ) (i : ℕ) (r : Shape) → length vs ≡ 256 → ((a : ℕ) → Part r a → (i < a) × (a < length ks))
       → ((k : Two) (a b : ℕ) → r ≡ two_parts k a b → ¬ (a ≡ b)) → PartsGuarded (with_guards vs i r) i r
-  here vs i (no_part k) e s d = tt
-  here vs i (one_part k a) e s d = let b = s a refl in get_or-set_same vs a i 0 (omega arith)
-  here vs i (two_parts sequence a b) e s d =
+  at_row vs i (no_part k) e s d = tt
+  at_row vs i (one_part k a) e s d = let b = s a refl in get_or-set_same vs a i 0 (omega arith)
+  at_row vs i (two_parts sequence a b) e s d =
       let x = s a (inl refl) in let y = s b (inr refl) in
       let w = written vs a b i (entry vs i) e (omega arith) (omega arith) (d sequence a b refl) in
       (w.0, w.1 ∙ sym (other_with vs i (two_parts sequence a b) i (λ p. let z = s i p in omega arith)))
-  here vs i (two_parts parallel a b) e s d =
+  at_row vs i (two_parts parallel a b) e s d =
       let x = s a (inl refl) in let y = s b (inr refl) in
       let w = written vs a b (entry vs i) (entry vs i) e (omega arith) (omega arith) (d parallel a b refl) in
       let o = sym (other_with vs i (two_parts parallel a b) i (λ p. let z = s i p in omega arith)) in
       (w.0 ∙ o, w.1 ∙ o)
-  here vs i (two_parts (when t) a b) e s d =
+  at_row vs i (two_parts (when t) a b) e s d =
       let x = s a (inl refl) in let y = s b (inr refl) in
       let w = written vs a b (entry vs i) (entry vs i) e (omega arith) (omega arith) (d (when t) a b refl) in
       let o = sym (other_with vs i (two_parts (when t) a b) i (λ p. let z = s i p in omega arith)) in
@@ -75,7 +75,7 @@ module _ (ks : List Kind) (S : Rising ks) (O : Once ks) (few : length ks ≤ 256
       record {
         size = size_with vs i (shape_at ks i) ∙ h.size;
         below = λ j b. elim (ℕ_discrete j i) [
-          | yes e ↦ subst (λ (m : ℕ). PartsGuarded us m (shape_at ks m)) (sym e) (here vs i (shape_at ks i) h.size (S i l) (λ k a c x y.
+          | yes e ↦ subst (λ (m : ℕ). PartsGuarded us m (shape_at ks m)) (sym e) (at_row vs i (shape_at ks i) h.size (S i l) (λ k a c x y.
               disjoint ks S O i l k a c x a self (subst (λ m. Under ks m a) y self)))
           | no d ↦
               same_guards vs us j (shape_at ks j) (other_with vs i (shape_at ks i) j (λ p. let z = S i l j p in omega arith))

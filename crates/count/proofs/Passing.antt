@@ -30,8 +30,8 @@ module _ {B : Type 0} {G : Ghosts B} (size : (b : B) â†’ length (G.present b) â‰
       record {
         legal = legal d.rows (is_open d.phase) d.legal;
         finished = d.finished;
-        calm = d.calm;
-        still = d.still;
+        no_steps = d.no_steps;
+        no_signals = d.no_signals;
         within = d.within;
         sized = size d.board;
         room = d.room;

@@ -17,7 +17,7 @@ use Rattle.signals.proofs.Sets.{get_or-empty, get_or-above}
 use Rattle.signals.proofs.WordSets.{get_or-word_set}
 use Rattle.rules.specs.Rules.{Signals, apply}
 use Rattle.record.specs.Sound.{Within}
-use Rattle.count.specs.Calls.{bit, stray, first_stray}
+use Rattle.count.specs.Calls.{bit, is_not_input, first_not_input}
 use Rattle.count.specs.Machine.{kind_effect}
 
 pub within_empty : (g : ℕ) (e : Signals) → e ≡ empty → Within g e
@@ -44,12 +44,12 @@ pub fits_at : (g : ℕ) (ks : List Kind) (i : ℕ) → Formed g ks → fits g (l
 fits_at g ks i f =
     elim (dec_lt i (length ks)) [ yes l ↦ f i l | no d ↦ ap (fits g (length ks) i) (get_or_past ks i Nothing (omega arith)) ]
 
--- a word without stray bits shows signals of the routine only
-pub within_word : (gs : List SignalKind) (word : ℕ) → first_stray gs word ≡ None → Within (length gs) (word_set word)
-unfolding first_stray
+-- a word without is_not_input bits shows signals of the routine only
+pub within_word : (gs : List SignalKind) (word : ℕ) → first_not_input gs word ≡ None → Within (length gs) (word_set word)
+unfolding first_not_input
 within_word gs word h s l =
     elim (dec_lt s 64) [
-      | yes b ↦ get_or-word_set word s b ∙ unset (bit word s) (is_input (get_or gs s Own)) (none_below (stray gs word) 64 h s b) (ap is_input (get_or_past gs s Own l))
+      | yes b ↦ get_or-word_set word s b ∙ unset (bit word s) (is_input (get_or gs s Own)) (none_below (is_not_input gs word) 64 h s b) (ap is_input (get_or_past gs s Own l))
       | no d ↦ get_or-above (word_set word) s (length-word_set word) (omega arith)
     ]
   where

@@ -4,7 +4,7 @@ use lib.ListN.{length-replicate}
 use Rattle.routine.specs.declared.kinds.Kind.{Kind}
 use Rattle.routine.specs.Tree.{tree_at}
 use Rattle.routine.specs.Search.{lowest}
-use Rattle.rules.specs.Rules.{rule, leaf_rule, two_rule, Leaf, Two, is_done, two_over, two_ended, Mark, idle, Signals, Tree, leaf, one, two, at, begun, idled, over, ready, fire, ended}
+use Rattle.rules.specs.Rules.{rule, leaf_rule, two_rule, Leaf, Two, is_done, two_over, two_ended, Mark, Idle, Signals, Tree, leaf, one, two, at, begun, idled, over, ready, fire, ended}
 use Rattle.rules.specs.Legal.{Legal, keeps, two_legal}
 use Rattle.rules.specs.Model.{first_marks, status_of}
 use Rattle.rules.specs.Theorems.{Checked, MarksStayLegal}
@@ -24,13 +24,13 @@ use Rattle.count.specs.View.{kinds_in, marks_in, signals_in, count_in, tree_in, 
 use Rattle.record.specs.declared.phases.Phase.{Phase}
 use Rattle.record.specs.Phases.{is_open, is_over, phase_of}
 use Rattle.count.specs.Calls.{phase_after}
-use Rattle.count.specs.Machine.{leaf_heard, two_heard, leaf_applies, two_applies, applies, heard}
+use Rattle.count.specs.Machine.{leaf_signal_present, two_signal_present, leaf_applies, two_applies, applies, own_signal_present}
 use Rattle.rules.proofs.Inward.{own_rule}
 use Rattle.rules.proofs.Lowest.{by_rule}
-use Rattle.record.proofs.Lists.{marks_many, kinds_many as table_kinds}
+use Rattle.record.proofs.Lists.{marks_many, kinds_many as table_kinds_many}
 
 abbrev pub Keeps : Bool → List Kind → List Mark → Type 0
-Keeps now ks ms = (i : ℕ) → i < length ks → keeps now ks ms i ≡ true
+Keeps in_instant ks ms = (i : ℕ) → i < length ks → keeps in_instant ks ms i ≡ true
 
 module _ (t : Rows) where
   pub checked : Checked (signals_in t) (kinds_in t)
@@ -40,13 +40,13 @@ module _ (t : Rows) where
   many = marks_many t.routine.table
 
   pub kinds_many : length (kinds_in t) ≡ count_in t
-  kinds_many = table_kinds t.routine.table
+  kinds_many = table_kinds_many t.routine.table
 
   pub some_row : 0 < count_in t
   some_row = t.routine.table.some
 
-  pub legal : (now : Bool) → Keeps now (kinds_in t) (marks_in t) → Legal now (kinds_in t) (marks_in t)
-  legal now h = record { many = many; each = h }
+  pub legal : (in_instant : Bool) → Keeps in_instant (kinds_in t) (marks_in t) → Legal in_instant (kinds_in t) (marks_in t)
+  legal in_instant h = record { many = many; each = h }
 
   pub few : length (kinds_in t) ≤ 256
   few = let m = kinds_many in let l = t.routine.table.most in omega arith
@@ -61,23 +61,23 @@ module _ (t : Rows) where
   lowest_rule e = by_rule (signals_in t) (kinds_in t) checked (marks_in t) e
 
   -- all idle
-  idle_all : (ms : List Mark) → length ms ≡ length (kinds_in t) → idled (tree_in t 0) ms ≡ replicate (length (kinds_in t)) idle
+  idle_all : (ms : List Mark) → length ms ≡ length (kinds_in t) → idled (tree_in t 0) ms ≡ replicate (length (kinds_in t)) Idle
   idle_all ms l =
       let ks = kinds_in t in
       let T = table (signals_in t) ks checked in
       let S = sound ks (signals_in t) T in
-      let os = replicate (length ks) idle in
+      let os = replicate (length ks) Idle in
       let u = tree_at ks 0 in
       let e : marked u (idled u ms) ≡ marked u os = idled_same (length ks) u ms S.distinct S.below l ∙ marked_rest u ms ∙ sym (idle_blank u (length ks)) in
       let k : length (idled u ms) ≡ length ks = (idled_kept u ms).length ∙ l in
-      ext_get_or idle (idled u ms) os (k ∙ sym (length-replicate (length ks) idle)) (λ i h. same_marks u (idled u ms) os e i (S.whole i (omega arith)))
+      ext_get_or Idle (idled u ms) os (k ∙ sym (length-replicate (length ks) Idle)) (λ i h. same_marks u (idled u ms) os e i (S.whole i (omega arith)))
 
   pub begun_anew : (u v : Rows) → Marked t u (idled (tree_in t 0) (marks_in t)) → Marked u v (begun (tree_in u 0) (marks_in u)) → marks_in v ≡ first_marks (kinds_in t)
   begun_anew u v a b =
       b.marks ∙ ap₂ (λ (ks : List Kind) (ms : List Mark). begun (tree_at ks 0) ms) a.kinds a.marks ∙ ap (begun (tree_in t 0)) (idle_all (marks_in t) many)
 
-pub moved : (now : Bool) (t u : Rows) (ms : List Mark) → kinds_in u ≡ kinds_in t → marks_in u ≡ ms → Legal now (kinds_in t) ms → Keeps now (kinds_in u) (marks_in u)
-moved now t u ms e f L = subst (λ (ks : List Kind). Keeps now ks (marks_in u)) (sym e) (subst (Keeps now (kinds_in t)) (sym f) L.each)
+pub moved : (in_instant : Bool) (t u : Rows) (ms : List Mark) → kinds_in u ≡ kinds_in t → marks_in u ≡ ms → Legal in_instant (kinds_in t) ms → Keeps in_instant (kinds_in u) (marks_in u)
+moved in_instant t u ms e f L = subst (λ (ks : List Kind). Keeps in_instant ks (marks_in u)) (sym e) (subst (Keeps in_instant (kinds_in t)) (sym f) L.each)
 
 pub new_keeps : (t u v : Rows) → Marked t u (idled (tree_in t 0) (marks_in t)) → Marked u v (begun (tree_in u 0) (marks_in u)) → Keeps false (kinds_in v) (marks_in v)
 new_keeps t u v a b = moved false t v _ (b.kinds ∙ a.kinds) (begun_anew t u v a b) (stays t).starts
@@ -89,21 +89,21 @@ step_keeps t u e k h r m = moved true t u _ m.kinds m.marks ((stays t).steps (ma
 pub end_keeps : (t u : Rows) (e : Signals) → Keeps true (kinds_in t) (marks_in t) → Marked t u (ended (tree_in t 0) (marks_in t) e) → Keeps false (kinds_in u) (marks_in u)
 end_keeps t u e h m = moved false t u _ m.kinds m.marks ((stays t).ends (marks_in t, e) (legal t true h))
 
-leaf_same : (e : Signals) (m : Mark) (k : Leaf) → leaf_rule e m k ≡ leaf_applies m k (leaf_heard k e)
+leaf_same : (e : Signals) (m : Mark) (k : Leaf) → leaf_rule e m k ≡ leaf_applies m k (leaf_signal_present k e)
 leaf_same e m k = grind arith
 
-two_same : (e : Signals) (m : Mark) (k : Two) (o : Bool) → two_rule e m k o ≡ two_applies m k o (two_heard k e)
+two_same : (e : Signals) (m : Mark) (k : Two) (o : Bool) → two_rule e m k o ≡ two_applies m k o (two_signal_present k e)
 two_same e m k o = grind arith
 
-pub rule_same : (t : Tree) (ms : List Mark) (e : Signals) → rule t ms e ≡ applies t ms (heard t e)
+pub rule_same : (t : Tree) (ms : List Mark) (e : Signals) → rule t ms e ≡ applies t ms (own_signal_present t e)
 rule_same (leaf n k) ms e = leaf_same e (at ms n) k
 rule_same (one n k p) ms e = refl
 rule_same (two n k p q) ms e = two_same e (at ms n) k (over p ms)
 
 -- what the code tests is the rule
-pub rule_told : (t : Rows) (e : Signals) (i : ℕ) (here applied : Bool) → here ≡ heard (tree_in t i) e → applied ≡ applies (tree_in t i) (marks_in t) here
+pub rule_told : (t : Rows) (e : Signals) (i : ℕ) (was_present applied : Bool) → was_present ≡ own_signal_present (tree_in t i) e → applied ≡ applies (tree_in t i) (marks_in t) was_present
     → applied ≡ rule (tree_in t i) (marks_in t) e
-rule_told t e i here applied h a = a ∙ ap (applies (tree_in t i) (marks_in t)) h ∙ sym (rule_same (tree_in t i) (marks_in t) e)
+rule_told t e i was_present applied h a = a ∙ ap (applies (tree_in t i) (marks_in t)) h ∙ sym (rule_same (tree_in t i) (marks_in t) e)
 
 -- what is ready is a statement
 ready_in : (t : Tree) (ms : List Mark) (e : Signals) (k : ℕ) → ready t ms e k ≡ true → In t k
@@ -112,9 +112,9 @@ ready_in (one n l p) ms e k h = let f = ready_in p ms e k in grind arith
 ready_in (two n l p q) ms e k h = let f = ready_in p ms e k in let g = ready_in q ms e k in grind arith
 
 -- the rule of a ready statement applies
-pub ready_applies : (t : Rows) (e : Signals) (k : ℕ) (here : Bool) → ready (tree_in t 0) (marks_in t) e k ≡ true → here ≡ heard (tree_in t k) e
-    → applies (tree_in t k) (marks_in t) here ≡ true
-ready_applies t e k here r h =
+pub ready_applies : (t : Rows) (e : Signals) (k : ℕ) (was_present : Bool) → ready (tree_in t 0) (marks_in t) e k ≡ true → was_present ≡ own_signal_present (tree_in t k) e
+    → applies (tree_in t k) (marks_in t) was_present ≡ true
+ready_applies t e k was_present r h =
     let ks = kinds_in t in
     let T = table (signals_in t) ks (checked t) in
     let S = sound ks (signals_in t) T in

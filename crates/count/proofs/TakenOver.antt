@@ -35,18 +35,18 @@ module _ (t u : Rows) (bytes : List ℕ) (small : (i : ℕ) → get_or bytes i 0
   marked : marks_in u ≡ marks_read n bytes
   marked = put.marks ∙ ap₂ (λ (k : ℕ) (ms : List Mark). take k ms) (sym (kinds_many t)) (ap (λ s. s.marks) same) ∙ marks_cut n bytes (few_kinds t.routine.table)
 
-  abbrev here : State
-  here = record { phase = saved.head.phase; closed = saved.head.closed; steps = saved.head.steps; marks = marks_in u; present = e }
+  abbrev restored : State
+  restored = record { phase = saved.head.phase; closed = saved.head.closed; steps = saved.head.steps; marks = marks_in u; present = e }
 
-  pub taken : here ≡ state_in n bytes
+  pub taken : restored ≡ state_in n bytes
   unfolding head_in
   taken =
       ap₂ (λ (s : Saved) (ms : List Mark). record { phase = s.head.phase; closed = s.head.closed; steps = s.head.steps; marks = ms; present = e }) same marked
       ∙ ap (λ (p : Signals). record { phase = (head_in bytes).phase; closed = (head_in bytes).closed; steps = (head_in bytes).steps; marks = marks_read n bytes; present = p })
       (shown ∙ ap (λ s. word_set s.head.present) same)
 
-  pub sound : Sound (signals_in u) (kinds_in u) here
+  pub sound : Sound (signals_in u) (kinds_in u) restored
   sound =
-      subst (λ (gs : List SignalKind). Sound gs (kinds_in u) here) (sym put.signals)
-      (subst (λ (ks : List Kind). Sound (signals_in t) ks here) (sym put.kinds)
+      subst (λ (gs : List SignalKind). Sound gs (kinds_in u) restored) (sym put.signals)
+      (subst (λ (ks : List Kind). Sound (signals_in t) ks restored) (sym put.kinds)
       (subst (Sound (signals_in t) (kinds_in t)) (sym taken) (taken_sound (signals_in t) (kinds_in t) bytes (some_statement t.routine) small accepted)))

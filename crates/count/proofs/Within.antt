@@ -7,7 +7,7 @@ use Rattle.routine.specs.Kinds.{Leaf, loop, kill, local, Two, sequence, parallel
 use Rattle.routine.specs.Tree.{node, tree_at}
 use Rattle.routine.proofs.Trees.{Part, Rising, Under, self, part, unroll, under_below, under_trans}
 use Rattle.routine.proofs.Once.{Once, disjoint}
-use Rattle.rules.specs.Rules.{Mark, idle, underway, done, Signals, Tree, at, begun, idled, over, rule, leaf_rule, one_rule, two_rule, fire, one_fired}
+use Rattle.rules.specs.Rules.{Mark, Idle, UnderWay, Done, Signals, Tree, at, begun, idled, over, rule, leaf_rule, one_rule, two_rule, fire, one_fired}
 use Rattle.rules.proofs.Frames.{In, begun_kept}
 use Rattle.rules.proofs.Table.{in_under, under_in}
 use Rattle.rules.proofs.Locality.{idled_idle, over_idle, rule_idle, rule_local}
@@ -17,13 +17,13 @@ use Rattle.count.proofs.Aside.{parallel_rests}
 one_idle : (m : Mark) (s : ℕ) (o : Bool) → o ≡ false → one_rule m (kill s) o ≡ false
 one_idle m s o h = grind arith
 
-kill_fired : (n : ℕ) (m : Mark) (s : ℕ) (p : Tree) (ms : List Mark) → one_fired n m (kill s) p ms ≡ idled p (set ms n done)
+kill_fired : (n : ℕ) (m : Mark) (s : ℕ) (p : Tree) (ms : List Mark) → one_fired n m (kill s) p ms ≡ idled p (set ms n Done)
 kill_fired n m s p ms = grind arith
 
-done_rests : (e : Signals) (m : Mark) (k : Leaf) → m ≡ done → leaf_rule e m k ≡ false
+done_rests : (e : Signals) (m : Mark) (k : Leaf) → m ≡ Done → leaf_rule e m k ≡ false
 done_rests e m k h = grind arith
 
-underway_rests : (e : Signals) (m : Mark) (s : ℕ) (o : Bool) → m ≡ underway → two_rule e m (when s) o ≡ false
+underway_rests : (e : Signals) (m : Mark) (s : ℕ) (o : Bool) → m ≡ UnderWay → two_rule e m (when s) o ≡ false
 underway_rests e m s o h = grind arith
 
 sequence_rests : (e : Signals) (m : Mark) (o : Bool) → o ≡ false → two_rule e m sequence o ≡ false
@@ -55,11 +55,11 @@ module _ (ks : List Kind) (S : Rising ks) (O : Once ks) (i : ℕ) (li : i < leng
   -- the rule of the statement itself
   self_rests : (r : Shape) → shape_at ks i ≡ r → rule (node i r (tree_at ks)) ms e ≡ true → i < front_after r ws was b i
       → rule (node i r (tree_at ks)) (fire (node i r (tree_at ks)) ms) e ≡ false
-  self_rests (no_part q) x r l = done_rests e (at (set ms i done) i) q (get_or-set_same ms i done idle (omega arith))
+  self_rests (no_part q) x r l = done_rests e (at (set ms i Done) i) q (get_or-set_same ms i Done Idle (omega arith))
   self_rests (one_part loop p) x r l = absurd (omega arith)
   self_rests (one_part (kill s) p) x r l =
       subst (λ (v : List Mark). one_rule (at v i) (kill s) (over (tree_at ks p) v) ≡ false) (sym (kill_fired i (at ms i) s (tree_at ks p) ms))
-      (one_idle (at (idled (tree_at ks p) (set ms i done)) i) s _ (over_idle (tree_at ks p) (idled (tree_at ks p) (set ms i done)) (idled_idle (tree_at ks p) (set ms i done))))
+      (one_idle (at (idled (tree_at ks p) (set ms i Done)) i) s _ (over_idle (tree_at ks p) (idled (tree_at ks p) (set ms i Done)) (idled_idle (tree_at ks p) (set ms i Done))))
   self_rests (one_part (local s) p) x r l = absurd (omega arith)
   self_rests (two_parts sequence p q) x r l =
       let v = begun (tree_at ks q) (idled (tree_at ks p) ms) in
@@ -67,9 +67,9 @@ module _ (ks : List Kind) (S : Rising ks) (O : Once ks) (i : ℕ) (li : i < leng
       (over_idle (tree_at ks p) v (λ j u. (begun_kept (tree_at ks q) (idled (tree_at ks p) ms)).other j (apart sequence p q x j u) ∙ idled_idle (tree_at ks p) ms j u))
   self_rests (two_parts parallel p q) x r l = absurd (no_rule e (at ms i) (over (tree_at ks p) ms) r)
   self_rests (two_parts (when s) p q) x r l =
-      let v = begun (tree_at ks p) (set ms i underway) in
+      let v = begun (tree_at ks p) (set ms i UnderWay) in
       underway_rests e (at v i) s (over (tree_at ks p) v)
-      ((begun_kept (tree_at ks p) (set ms i underway)).other i (not_in_part (two_parts (when s) p q) x p (inl refl)) ∙ get_or-set_same ms i underway idle (omega arith))
+      ((begun_kept (tree_at ks p) (set ms i UnderWay)).other i (not_in_part (two_parts (when s) p q) x p (inl refl)) ∙ get_or-set_same ms i UnderWay Idle (omega arith))
 
   module _ (k : ℕ) (h : rule (tree_at ks k) ms e ≡ false) where
     in_part : (p : ℕ) → p < length ks → Under ks p k → (j : ℕ) → In (tree_at ks k) j → In (tree_at ks p) j
@@ -84,7 +84,7 @@ module _ (ks : List Kind) (S : Rising ks) (O : Once ks) (i : ℕ) (li : i < leng
         let lq : q < length ks = omega arith in
         let z : Under ks q k = subst (λ a. Under ks a k) g u in
         subst (λ (v : List Mark). rule (tree_at ks k) v e ≡ false) (sym (kill_fired i (at ms i) s (tree_at ks q) ms))
-        (rule_idle (tree_at ks k) (idled (tree_at ks q) (set ms i done)) e (λ j v. idled_idle (tree_at ks q) (set ms i done) j (in_part q lq z j v)))
+        (rule_idle (tree_at ks k) (idled (tree_at ks q) (set ms i Done)) e (λ j v. idled_idle (tree_at ks q) (set ms i Done) j (in_part q lq z j v)))
     part_rests (one_part (local s) q) x r l p y g u = let w = under_below ks S y.1 u in absurd (omega arith)
     part_rests (two_parts sequence q q') x r l p y (inl g) u =
         let lq : q < length ks = omega arith in
@@ -97,10 +97,10 @@ module _ (ks : List Kind) (S : Rising ks) (O : Once ks) (i : ℕ) (li : i < leng
     part_rests (two_parts (when s) q q') x r l p y (inr g) u =
         let lq : q' < length ks = omega arith in
         let z : Under ks q' k = subst (λ a. Under ks a k) g u in
-        rule_local (tree_at ks k) ms (begun (tree_at ks q) (set ms i underway)) e
+        rule_local (tree_at ks k) ms (begun (tree_at ks q) (set ms i UnderWay)) e
         (λ j v. let w = in_part q' lq z j v in
-        (begun_kept (tree_at ks q) (set ms i underway)).other j (λ n. apart (when s) q q' x j n w)
-        ∙ get_or-set_other ms i j underway idle (λ n. not_in_part (two_parts (when s) q q') x q' (inr refl) (subst (In (tree_at ks q')) n w)))
+        (begun_kept (tree_at ks q) (set ms i UnderWay)).other j (λ n. apart (when s) q q' x j n w)
+        ∙ get_or-set_other ms i j UnderWay Idle (λ n. not_in_part (two_parts (when s) q q') x q' (inr refl) (subst (In (tree_at ks q')) n w)))
         ∙ h
 
   -- the rule of statement k, inside statement i or it itself

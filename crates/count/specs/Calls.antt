@@ -31,12 +31,12 @@ abbrev pub bit : ℕ → ℕ → Bool
 bit word s = word / 2 ^ s % 2 == 1
 
 -- the bit is set, and the signal is no input
-abbrev pub stray : List SignalKind → ℕ → ℕ → Bool
-stray gs word s = bit word s && not (is_input (slice_index_or gs s Local))
+abbrev pub is_not_input : List SignalKind → ℕ → ℕ → Bool
+is_not_input gs word s = bit word s && not (is_input (slice_index_or gs s Local))
 
 -- the lowest such bit
-unfoldable pub first_stray : List SignalKind → ℕ → Option ℕ
-first_stray gs word = lowest (stray gs word) 64
+unfoldable pub first_not_input : List SignalKind → ℕ → Option ℕ
+first_not_input gs word = lowest (is_not_input gs word) 64
 
 abbrev pub not_input : Option ℕ → Option Refusal
 not_input None = None
@@ -45,7 +45,7 @@ not_input (Some s) = Some (NotInput s)
 abbrev pub begin_by : Phase → List SignalKind → ℕ → ℕ → Option Refusal
 begin_by Open gs closed word = Some AlreadyOpen
 begin_by Over gs closed word = Some AlreadyOver
-begin_by Resting gs closed word = cond (closed == 4294967295) (Some NoInstantLeft) (not_input (first_stray gs word))
+begin_by Resting gs closed word = cond (closed == 4294967295) (Some NoInstantLeft) (not_input (first_not_input gs word))
 
 abbrev pub begin_refusal : List SignalKind → State → ℕ → Option Refusal
 begin_refusal gs s word = begin_by s.phase gs s.closed word

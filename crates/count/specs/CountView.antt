@@ -8,7 +8,7 @@ use Rattle.count.specs.declared.answers.Closing.{Closing}
 use Rattle.count.specs.declared.counts.Count.{Count}
 use Rattle.count.specs.declared.records.Released.{Released}
 use Rattle.routine.specs.Kinds.{marks}
-use Rattle.routine.specs.View.{kinds_of as kinds_read, signals_of as signals_read}
+use Rattle.routine.specs.View.{table_kinds, table_signals}
 use Rattle.record.specs.State.{State}
 use Rattle.record.specs.Answers.{answer}
 use Rattle.record.specs.Taking.{taking_refusal, state_in}
@@ -30,8 +30,8 @@ module _ {B : Type 0} {G : Ghosts B} where
   pub record Leaves (present : B → List Bool) (c : Count B G) (s : State) (r : Released B) : Type 0 where
     pub board : present r.board ≡ s.present
     pub marks : marks (vec_items r.routine.table.statements) ≡ s.marks
-    pub kinds : kinds_read r.routine.table ≡ kinds_of c
-    pub signals : signals_read r.routine.table ≡ signals_of c
+    pub kinds : table_kinds r.routine.table ≡ kinds_of c
+    pub signals : table_signals r.routine.table ≡ signals_of c
 
   -- d has the routine of c
   pub record SameRoutine (c d : Count B G) : Type 0 where

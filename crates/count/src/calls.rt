@@ -1,11 +1,11 @@
 ghost use Rattle.std.specs.Prelude.{◌≡◌, ◌<◌, true, false, None, OnOk, slice_index_or};
-ghost use Rattle.routine.specs.View.{kinds_of as kinds_read, signals_of as signals_read};
+ghost use Rattle.routine.specs.View.{table_kinds, table_signals};
 ghost use Rattle.rules.specs.Rules.{over, ready};
 ghost use Rattle.rules.specs.Model.{outputs_of, status_of};
 ghost use Rattle.record.specs.Answers.{answer};
 ghost use Rattle.record.specs.Phases.{is_open};
 ghost use Rattle.count.specs.View.{marks_in, count_in, tree_in};
-ghost use Rattle.count.specs.Calls.{new_state, stray, first_stray, begin_refusal, step_refusal, step_state, close_refusal, closing, close_state, shown_out};
+ghost use Rattle.count.specs.Calls.{new_state, is_not_input, first_not_input, begin_refusal, step_refusal, step_state, close_refusal, closing, close_state, shown_out};
 ghost use Rattle.count.specs.CountView.{kinds_of, signals_of, state_of, SameRoutine, Begins, Steps, Closes};
 
 use crate::answers::Closing;
@@ -20,9 +20,9 @@ use signals::Board;
 impl<B: Board> Count<B> {
     // A count at its start: statement 0 begun, all else idle, no signal present.
     pub fn new(routine: Routine, mut board: B) -> Count<B>
-        ensures kinds { kinds_of result ≡ kinds_read routine.table }
-        ensures signals { signals_of result ≡ signals_read routine.table }
-        ensures state { state_of B.present result ≡ new_state (kinds_read routine.table) }
+        ensures kinds { kinds_of result ≡ table_kinds routine.table }
+        ensures signals { signals_of result ≡ table_signals routine.table }
+        ensures state { state_of B.present result ≡ new_state (table_kinds routine.table) }
     {
         board.wipe();
         let mut rows = Rows::new(routine);
@@ -37,31 +37,31 @@ impl<B: Board> Count<B> {
         }
     }
 
-    fn is_stray(&self, word: u64, s: u8) -> bool
+    fn is_not_input(&self, word: u64, s: u8) -> bool
         requires { s < 64 }
-        ensures { result ≡ stray (signals_of self.now) word s }
+        ensures { result ≡ is_not_input (signals_of self.now) word s }
     {
         words::has_bit(word, s)
             && self.rows.routine.table.signal(usize::from(s)) != Some(SignalKind::Input)
     }
 
     // The lowest set bit that is no input.
-    fn stray(&self, word: u64) -> Option<u8>
-        ensures { result ≡ first_stray (signals_of self.now) word }
+    fn first_not_input(&self, word: u64) -> Option<u8>
+        ensures { result ≡ first_not_input (signals_of self.now) word }
     {
-        (0..words::width(word)).find(|s| self.is_stray(word, *s))
+        (0..words::width(word)).find(|s| self.is_not_input(word, *s))
     }
 
     fn may_begin(&self, word: u64) -> Result<(), Refusal>
         ensures room { OnOk result ((self.now.closed < 4294967295) × (is_open self.now.phase ≡ false)) }
-        ensures inputs { OnOk result (first_stray (signals_of self.now) word ≡ None) }
+        ensures inputs { OnOk result (first_not_input (signals_of self.now) word ≡ None) }
         ensures why { result ≡ answer (begin_refusal (signals_of self.now) (state_of B.present self.now) word) tt }
     {
         match self.phase {
             Phase::Open => Err(Refusal::AlreadyOpen),
             Phase::Over => Err(Refusal::AlreadyOver),
             Phase::Resting if self.closed == u32::MAX => Err(Refusal::NoInstantLeft),
-            Phase::Resting => match self.stray(word) {
+            Phase::Resting => match self.first_not_input(word) {
                 Some(s) => Err(Refusal::NotInput {
                     signal: usize::from(s),
                 }),
@@ -105,8 +105,8 @@ impl<B: Board> Count<B> {
         ensures routine { SameRoutine self.old self.new }
     {
         let kind = self.rows.kind(k);
-        let here = self.here(k);
-        self.rows.fire(k, here);
+        let own_signal_present = self.own_signal_present(k);
+        self.rows.fire(k, own_signal_present);
         words::take_effect(&mut self.board, kind);
         self.steps = self.steps.saturating_add(1);
     }

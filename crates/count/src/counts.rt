@@ -24,8 +24,8 @@ pub struct Count<B: Board> {
     pub(crate) steps: u16,
     ghost legal: { ((i : ℕ) → i < length (kinds_in rows) → keeps (is_open phase) (kinds_in rows) (marks_in rows) i ≡ true) },
     ghost finished: { (is_over phase ≡ true → over (tree_at (kinds_in rows) 0) (marks_in rows) ≡ true) },
-    ghost still: { (is_open phase ≡ false → B.present board ≡ empty) },
+    ghost no_signals: { (is_open phase ≡ false → B.present board ≡ empty) },
     ghost within: { Within (length (signals_in rows)) (B.present board) },
-    ghost calm: { (is_open phase ≡ false → steps ≡ 0) },
+    ghost no_steps: { (is_open phase ≡ false → steps ≡ 0) },
     ghost room: { (is_open phase ≡ true → closed < 4294967295) },
 }

@@ -1,6 +1,6 @@
 ghost use Rattle.std.specs.Prelude.{◌≡◌, ◌<◌};
 ghost use Rattle.routine.specs.Kinds.{shape};
-ghost use Rattle.routine.specs.View.{kinds_of as kinds_read};
+ghost use Rattle.routine.specs.View.{table_kinds};
 ghost use Rattle.count.specs.Front.{Guards, Waiters, with_guards, with_waiter};
 
 use routine::{Kind, Routine};
@@ -29,7 +29,7 @@ fn guard_parts(guards: &mut [u8; 256], i: usize, kind: Kind)
 
 // The guard of each statement, which is the one above it that its step can make ready; 0 where there is none.
 pub(crate) fn guards_of(routine: &Routine) -> [u8; 256]
-    ensures { Guards (kinds_read routine.now.table) result }
+    ensures { Guards (table_kinds routine.now.table) result }
 {
     let mut guards = [0; 256];
     for i in 0..routine.count() {
@@ -54,7 +54,7 @@ fn await_signal(waiters: &mut [u8; 64], i: usize, kind: Kind)
 
 // The lowest statement that awaits each signal; 255 where there is none.
 pub(crate) fn waiters_of(routine: &Routine) -> [u8; 64]
-    ensures { Waiters (kinds_read routine.now.table) result }
+    ensures { Waiters (table_kinds routine.now.table) result }
 {
     let mut waiters = [u8::MAX; 64];
     for i in 0..routine.count() {

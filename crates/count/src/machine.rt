@@ -113,13 +113,13 @@ impl Rows {
         }
     }
 
-    // Does the rule of statement i apply, where `here` says whether its signal is present?
-    pub(crate) fn applies(&self, i: usize, here: bool) -> bool
-        ensures { result ≡ applies (tree_in self.now i) (marks_in self.now) here }
+    // Does the rule of statement i apply, where `own_signal_present` says whether its signal is present?
+    pub(crate) fn applies(&self, i: usize, own_signal_present: bool) -> bool
+        ensures { result ≡ applies (tree_in self.now i) (marks_in self.now) own_signal_present }
     {
         match (self.kind(i), self.mark(i)) {
             (Kind::Emit { .. } | Kind::Loop { .. } | Kind::Local { .. }, Mark::Waiting) => true,
-            (Kind::Wait { .. } | Kind::When { .. }, Mark::Waiting) => here,
+            (Kind::Wait { .. } | Kind::When { .. }, Mark::Waiting) => own_signal_present,
             (Kind::Sequence { first, .. } | Kind::Kill { first, .. } | Kind::Loop { first }, _)
             | (Kind::Local { first, .. }, Mark::UnderWay) => self.over(usize::from(first)),
             _ => false,
@@ -127,11 +127,11 @@ impl Rows {
     }
 
     // The step of statement i, whose rule applies.
-    pub(crate) fn fire(&mut self, i: usize, here: bool)
-        requires { applies (tree_in self.old i) (marks_in self.old) here ≡ true }
+    pub(crate) fn fire(&mut self, i: usize, own_signal_present: bool)
+        requires { applies (tree_in self.old i) (marks_in self.old) own_signal_present ≡ true }
         ensures { Marked self.old self.new (fire (tree_in self.old i) (marks_in self.old)) }
     {
-        match (self.kind(i), self.mark(i), here) {
+        match (self.kind(i), self.mark(i), own_signal_present) {
             (Kind::Emit { .. }, Mark::Waiting, _) | (Kind::Wait { .. }, Mark::Waiting, true) => {
                 self.put(i, Mark::Done)
             }

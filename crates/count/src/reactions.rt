@@ -29,7 +29,7 @@ impl<B: Board> Count<B> {
             let Some(k) = self.ready_from(front) else {
                 return turn;
             };
-            front = self.rows.front_after(front, k, self.here(k));
+            front = self.rows.front_after(front, k, self.own_signal_present(k));
             self.act(k);
             tracer.step(k);
         }

@@ -1,7 +1,7 @@
 ghost use Rattle.std.specs.Prelude.{◌≡◌, ◌<◌, ◌&&◌, length, nat_lt};
 ghost use Rattle.routine.specs.Search.{lowest};
 ghost use Rattle.rules.specs.Rules.{ready, rule};
-ghost use Rattle.count.specs.Machine.{heard};
+ghost use Rattle.count.specs.Machine.{own_signal_present};
 ghost use Rattle.count.specs.Front.{QuietBelow};
 ghost use Rattle.count.specs.CountView.{kinds_of};
 ghost use Rattle.count.specs.View.{marks_in, count_in, tree_in};
@@ -13,8 +13,8 @@ use signals::Board;
 
 impl<B: Board> Count<B> {
     // Is the signal of statement i present?
-    pub(crate) fn here(&self, i: usize) -> bool
-        ensures { result ≡ heard (tree_in self.now.rows i) (B.present self.now.board) }
+    pub(crate) fn own_signal_present(&self, i: usize) -> bool
+        ensures { result ≡ own_signal_present (tree_in self.now.rows i) (B.present self.now.board) }
     {
         match self.rows.kind(i) {
             Kind::Emit { signal }
@@ -34,7 +34,7 @@ impl<B: Board> Count<B> {
     pub(crate) fn rule_applies(&self, i: usize) -> bool
         ensures { result ≡ rule (tree_in self.now.rows i) (marks_in self.now.rows) (B.present self.now.board) }
     {
-        self.rows.applies(i, self.here(i))
+        self.rows.applies(i, self.own_signal_present(i))
     }
 
     // Does the guard lie below the front, and its rule apply?

@@ -56,15 +56,15 @@ impl Rows {
     }
 
     // From where on a rule can apply after the step of statement k that did not; before it, none below b applies but maybe
-    // that of k, and `here` says whether the signal of k was present.
-    fn from_after(&self, b: usize, k: usize, here: bool) -> usize
-        ensures { result ≡ front_after (shape_at (kinds_in self.now) k) self.now.waiters here b k }
+    // that of k, and `own_signal_present` says whether the signal of k was present.
+    fn from_after(&self, b: usize, k: usize, own_signal_present: bool) -> usize
+        ensures { result ≡ front_after (shape_at (kinds_in self.now) k) self.now.waiters own_signal_present b k }
     {
         match self.kind(k) {
             Kind::Loop { .. } | Kind::Local { .. } => k,
             Kind::Sequence { second, .. } => b.min(usize::from(second)),
             Kind::When { first, .. } => b.min(usize::from(first)),
-            Kind::Emit { signal } if !here => b.min(self.waiter(signal)),
+            Kind::Emit { signal } if !own_signal_present => b.min(self.waiter(signal)),
             Kind::Emit { .. }
             | Kind::Nothing
             | Kind::Stop
@@ -75,12 +75,12 @@ impl Rows {
     }
 
     // The front after the step of statement k, the lowest ready one, where it was `front` before.
-    pub(crate) fn front_after(&self, front: Front, k: usize, here: bool) -> Front
-        ensures from { result.from ≡ front_after (shape_at (kinds_in self.now) k) self.now.waiters here (max front.from k) k }
+    pub(crate) fn front_after(&self, front: Front, k: usize, own_signal_present: bool) -> Front
+        ensures from { result.from ≡ front_after (shape_at (kinds_in self.now) k) self.now.waiters own_signal_present (max front.from k) k }
         ensures guard { result.guard ≡ entry self.now.guards k }
     {
         Front {
-            from: self.from_after(front.from.max(k), k, here),
+            from: self.from_after(front.from.max(k), k, own_signal_present),
             guard: self.guard(k),
         }
     }

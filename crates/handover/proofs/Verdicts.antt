@@ -5,9 +5,9 @@ use Rattle.std.specs.List.{flat_map}
 use Rattle.routine.specs.declared.kinds.Kind.{Kind}
 use Rattle.routine.specs.declared.kinds.SignalKind.{SignalKind}
 use Rattle.relay.specs.Asked.{Asked}
-use Rattle.relay.specs.Heard.{Ear, Told, ToldAlike}
-use Rattle.relay.specs.History.{Past, takes_over}
-use Rattle.relay.specs.Promises.{taken, ended}
+use Rattle.relay.specs.Heard.{Ear, Observation, ObservedAlike}
+use Rattle.relay.specs.History.{Transition, takes_over}
+use Rattle.relay.specs.Promises.{taken, closed_instants}
 use Rattle.relay.specs.Relays.{Relays}
 use Rattle.relay.specs.declared.relays.Relayed.{Relayed}
 use Rattle.handover.specs.declared.tellings.Telling.{Telling}
@@ -25,7 +25,7 @@ same_lists (x ∷ xs) (y ∷ ys) l h = ap₂ ◌∷◌ (h 0 x y refl refl) (same
 module _ (gs : List SignalKind) (ks : List Kind) where
   module _ {A B : Type 0} (first : A → List Bool) (second : B → List Bool) (cs ds : List Asked) (a a' b b' : Ear) (r : Relayed A B)
       (R : Relays first second gs ks cs ds a a' b b' r) (one : a'.lost ≡ false) (other : b'.lost ≡ false) where
-    pub told_of : taken (whole_of gs ks cs ds) ≡ false → Told a a' b b' (before_of gs ks cs) (later_of gs ks cs ds)
+    pub told_of : taken (whole_of gs ks cs ds) ≡ false → Observation a a' b b' (before_of gs ks cs) (later_of gs ks cs ds)
     told_of t = record { first = one; second = other; before = R.before.heard one; later = R.hands_on.later.heard other; untaken = t }
 
     -- listeners that had heard nothing before
@@ -40,19 +40,19 @@ module _ (gs : List SignalKind) (ks : List Kind) where
       unfolding told_relay told_instants
       told_is n m t T =
           record {
-            text = T.text ∙ ap (λ (ps : List Past). relay_text ps r.handed (drop 1 b'.heard)) heard_before
+            text = T.text ∙ ap (λ (ps : List Transition). relay_text ps r.handed (drop 1 b'.heard)) heard_before
                 ∙ ap (λ (bs : List ℕ). relay_text (before_of gs ks cs) bs (drop 1 b'.heard)) R.hands_on.handed
                 ∙ ap (relay_text (before_of gs ks cs) (handed_of gs ks cs)) heard_later;
-            instants = T.instants ∙ ap₂ (λ (ps qs : List Past). instants_text n (ps ++ qs)) heard_before heard_later ∙ ap (λ k. instants_text k (whole_of gs ks cs ds)) m;
+            instants = T.instants ∙ ap₂ (λ (ps qs : List Transition). instants_text n (ps ++ qs)) heard_before heard_later ∙ ap (λ k. instants_text k (whole_of gs ks cs ds)) m;
           }
 
   -- the same words: the same instants
-  pub same_instants_told : (cs ds es fs : List Asked) (a a' b b' c c' d d' : Ear) → ToldAlike (length ks) a a' b b' c c' d d'
-      → Told a a' b b' (before_of gs ks cs) (later_of gs ks cs ds) → Told c c' d d' (before_of gs ks es) (later_of gs ks es fs) → SameWords gs ks cs ds es fs
+  pub same_instants_told : (cs ds es fs : List Asked) (a a' b b' c c' d d' : Ear) → ObservedAlike (length ks) a a' b b' c c' d d'
+      → Observation a a' b b' (before_of gs ks cs) (later_of gs ks cs ds) → Observation c c' d d' (before_of gs ks es) (later_of gs ks es fs) → SameWords gs ks cs ds es fs
       → told_instants gs ks cs ds ≡ told_instants gs ks es fs
   unfolding told_instants
   same_instants_told cs ds es fs a a' b b' c c' d d' law T U S =
       let same = law (before_of gs ks cs) (later_of gs ks cs ds) (before_of gs ks es) (later_of gs ks es fs) T U in
       ap (flat_map instant_line)
-      (same_lists (ended (length ks) [] (whole_of gs ks cs ds)) (ended (length ks) [] (whole_of gs ks es fs)) S.many
+      (same_lists (closed_instants (length ks) [] (whole_of gs ks cs ds)) (closed_instants (length ks) [] (whole_of gs ks es fs)) S.many
       (λ k x y e f. same k (ap (take (k + 1)) S.words) x y e f))

@@ -15,8 +15,8 @@ use Rattle.input.specs.declared.printed.Printed.{Printed}
 use Rattle.record.specs.Record.{record_of}
 use Rattle.relay.specs.Asked.{Asked}
 use Rattle.count.specs.Calls.{new_state}
-use Rattle.relay.specs.History.{Past, pasts, after_calls}
-use Rattle.relay.specs.Promises.{taken, accepted, ended, left_open}
+use Rattle.relay.specs.History.{Transition, trace, after_calls}
+use Rattle.relay.specs.Promises.{taken, accepted, closed_instants, left_open}
 use Rattle.handover.specs.Calls.{list_of}
 use Rattle.handover.specs.Texts.{told_lines, instant_line, byte_text}
 
@@ -25,24 +25,24 @@ unfoldable pub handed_text : List ℕ → List ℕ
 handed_text handed = codes "hand over " ++ (flat_map byte_text handed ++ (line_end ++ (codes "taken over" ++ line_end)))
 
 -- a line for each call on the first board, the hand-over, and a line for each call on the second
-abbrev pub relay_text : List Past → List ℕ → List Past → List ℕ
+abbrev pub relay_text : List Transition → List ℕ → List Transition → List ℕ
 relay_text before handed later = told_lines [] before ++ (handed_text handed ++ told_lines (left_open [] before) later)
 
 -- the closed instants alone, of a routine of n statements
-abbrev pub instants_text : ℕ → List Past → List ℕ
-instants_text n ps = flat_map instant_line (ended n [] ps)
+abbrev pub instants_text : ℕ → List Transition → List ℕ
+instants_text n ps = flat_map instant_line (closed_instants n [] ps)
 
 -- what the calls cs come to on a new count of the routine, the record that is handed over, and what ds come to after it
-abbrev pub before_of : List SignalKind → List Kind → List Asked → List Past
-before_of gs ks cs = pasts gs ks (new_state ks) cs
+abbrev pub before_of : List SignalKind → List Kind → List Asked → List Transition
+before_of gs ks cs = trace gs ks (new_state ks) cs
 
 abbrev pub handed_of : List SignalKind → List Kind → List Asked → List ℕ
 handed_of gs ks cs = record_of (length gs) (length ks) (after_calls gs ks (new_state ks) cs)
 
-abbrev pub later_of : List SignalKind → List Kind → List Asked → List Asked → List Past
-later_of gs ks cs ds = pasts gs ks (after_calls gs ks (new_state ks) cs) ds
+abbrev pub later_of : List SignalKind → List Kind → List Asked → List Asked → List Transition
+later_of gs ks cs ds = trace gs ks (after_calls gs ks (new_state ks) cs) ds
 
-abbrev pub whole_of : List SignalKind → List Kind → List Asked → List Asked → List Past
+abbrev pub whole_of : List SignalKind → List Kind → List Asked → List Asked → List Transition
 whole_of gs ks cs ds = before_of gs ks cs ++ later_of gs ks cs ds
 
 unfoldable pub told_relay : List SignalKind → List Kind → List Asked → List Asked → List ℕ
@@ -93,7 +93,7 @@ pub record SameWords (gs : List SignalKind) (ks : List Kind) (cs ds es fs : List
   pub untaken : taken (whole_of gs ks cs ds) ≡ false
   pub untaken_again : taken (whole_of gs ks es fs) ≡ false
   pub words : accepted (whole_of gs ks cs ds) ≡ accepted (whole_of gs ks es fs)
-  pub many : length (ended (length ks) [] (whole_of gs ks cs ds)) ≡ length (ended (length ks) [] (whole_of gs ks es fs))
+  pub many : length (closed_instants (length ks) [] (whole_of gs ks cs ds)) ≡ length (closed_instants (length ks) [] (whole_of gs ks es fs))
 
 -- with the verdict that the instants are the same
 abbrev pub told_same : List SignalKind → List Kind → List ℕ → List ℕ

@@ -4,20 +4,20 @@ use Rattle.std.specs.List.{flat_map}
 use Rattle.routine.specs.declared.kinds.Kind.{Kind}
 use Rattle.routine.specs.declared.kinds.SignalKind.{SignalKind}
 use Rattle.relay.specs.Asked.{Asked}
-use Rattle.relay.specs.History.{Past}
-use Rattle.relay.specs.Promises.{ended, left_open}
+use Rattle.relay.specs.History.{Transition}
+use Rattle.relay.specs.Promises.{closed_instants, left_open}
 use Rattle.handover.specs.declared.tellings.Telling.{Telling}
 use Rattle.handover.specs.Texts.{told_lines, instant_line}
 use Rattle.handover.specs.Story.{relay_text, instants_text, told_relay, told_instants}
 
 -- the events ps were written, of a routine of n statements
-pub record Grows (n : ℕ) (old new : Telling) (ps : List Past) : Type 0 where
+pub record Grows (n : ℕ) (old new : Telling) (ps : List Transition) : Type 0 where
   pub text : string_bytes new.text ≡ string_bytes old.text ++ told_lines (vec_items old.stepped) ps
-  pub instants : string_bytes new.instants ≡ string_bytes old.instants ++ flat_map instant_line (ended n (vec_items old.stepped) ps)
+  pub instants : string_bytes new.instants ≡ string_bytes old.instants ++ flat_map instant_line (closed_instants n (vec_items old.stepped) ps)
   pub stepped : vec_items new.stepped ≡ left_open (vec_items old.stepped) ps
 
 -- a relay is told
-pub record Tells (n : ℕ) (before : List Past) (handed : List ℕ) (later : List Past) (t : Telling) : Type 0 where
+pub record Tells (n : ℕ) (before : List Transition) (handed : List ℕ) (later : List Transition) (t : Telling) : Type 0 where
   pub text : string_bytes t.text ≡ relay_text before handed later
   pub instants : string_bytes t.instants ≡ instants_text n (before ++ later)
 

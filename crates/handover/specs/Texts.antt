@@ -3,19 +3,19 @@ use Rattle.std.specs.Prelude.{ℕ, ◌/◌, ◌%◌, List, [], ◌∷◌, ◌++�
 use Rattle.std.specs.List.{flat_map}
 use Rattle.routine.specs.Refusals.{refusal_line}
 use Rattle.routine.specs.Texts.{line_end}
-use Rattle.rules.specs.Rules.{Mark, idle, waiting, underway, done}
+use Rattle.rules.specs.Rules.{Mark, Idle, Waiting, UnderWay, Done}
 use Rattle.rules.specs.Texts.{digit, hex, instant_text}
 use Rattle.count.specs.declared.answers.Closing.{Closing}
 use Rattle.count.specs.Texts.{closing_text}
-use Rattle.relay.specs.History.{Past, begins, steps, closes, reacts, takes_over, refuses}
-use Rattle.relay.specs.Promises.{Ended, stepped_then}
+use Rattle.relay.specs.History.{Transition, begins, steps, closes, reacts, takes_over, refuses}
+use Rattle.relay.specs.Promises.{ClosedInstant, stepped_then}
 
 -- a letter for each mark
 abbrev pub letter : Mark → List ℕ
-letter idle = codes "-"
-letter waiting = codes "w"
-letter underway = codes "u"
-letter done = codes "d"
+letter Idle = codes "-"
+letter Waiting = codes "w"
+letter UnderWay = codes "u"
+letter Done = codes "d"
 
 -- a closing and the marks that remain
 abbrev pub ended_text : Closing → List Mark → List ℕ
@@ -32,7 +32,7 @@ abbrev pub stepped_text : List ℕ → List ℕ
 stepped_text v = codes " stepped" ++ numbers_text v
 
 -- what a call came to, where v was stepped before in an open instant
-abbrev pub told_text : List ℕ → Past → List ℕ
+abbrev pub told_text : List ℕ → Transition → List ℕ
 told_text v (begins word) = codes "begin " ++ hex 16 word
 told_text v (steps k) = codes "step " ++ decimal k
 told_text v (closes c ms) = codes "close " ++ (ended_text c ms ++ stepped_text v)
@@ -40,16 +40,16 @@ told_text v (reacts word c ms u) = codes "react " ++ (hex 16 word ++ (codes " " 
 told_text v takes_over = codes "take over"
 told_text v (refuses r) = refusal_line r
 
-abbrev pub told_line : List ℕ → Past → List ℕ
+abbrev pub told_line : List ℕ → Transition → List ℕ
 told_line v p = told_text v p ++ line_end
 
 -- a line for each call
-abbrev pub told_lines : List ℕ → List Past → List ℕ
+abbrev pub told_lines : List ℕ → List Transition → List ℕ
 told_lines v [] = []
 told_lines v (p ∷ ps) = told_line v p ++ told_lines (stepped_then v p) ps
 
 -- a closed instant alone: its closing, the marks that remain, and how often each statement was stepped
-abbrev pub instant_line : Ended → List ℕ
+abbrev pub instant_line : ClosedInstant → List ℕ
 instant_line e =
     instant_text e.instant e.outcome.outputs e.outcome.status e.outcome.steps
     ++ (codes " marks " ++ (flat_map letter e.outcome.marks ++ (codes " times" ++ (numbers_text e.outcome.times ++ line_end))))

@@ -1,6 +1,6 @@
 ghost use Rattle.std.specs.Prelude.{◌≡◌, ◌++◌, map, IfOk, OnOk, string_bytes};
 ghost use Rattle.routine.specs.Refusals.{SaysOrMemory};
-ghost use Rattle.routine.specs.View.{kinds_of, signals_of, load_of};
+ghost use Rattle.routine.specs.View.{table_kinds, table_signals, load_of};
 ghost use Rattle.input.specs.Input.{table_part, rest_part};
 ghost use Rattle.input.specs.Printed.{said};
 ghost use Rattle.relay.specs.Asked.{asked};
@@ -64,9 +64,9 @@ fn tell_twice<A: Board + Drop, B: Board + Drop, C: Board + Drop, D: Board + Drop
     plan: Plan<'_, A, B>,
     again: Plan<'_, C, D>,
 ) -> Result<Tellings, AllocError>
-    ensures first { IfOk result (λ t. IsTold (signals_of routine.table) (kinds_of routine.table) (map asked plan.entry.before.now) (map asked plan.entry.later.now) t.first) }
-    ensures second { IfOk result (λ t. IsTold (signals_of routine.table) (kinds_of routine.table) (map asked again.entry.before.now) (map asked again.entry.later.now) t.second) }
-    ensures same { IfOk result (λ t. SameWords (signals_of routine.table) (kinds_of routine.table) (map asked plan.entry.before.now) (map asked plan.entry.later.now) (map asked again.entry.before.now) (map asked again.entry.later.now) → string_bytes t.first.instants ≡ string_bytes t.second.instants) }
+    ensures first { IfOk result (λ t. IsTold (table_signals routine.table) (table_kinds routine.table) (map asked plan.entry.before.now) (map asked plan.entry.later.now) t.first) }
+    ensures second { IfOk result (λ t. IsTold (table_signals routine.table) (table_kinds routine.table) (map asked again.entry.before.now) (map asked again.entry.later.now) t.second) }
+    ensures same { IfOk result (λ t. SameWords (table_signals routine.table) (table_kinds routine.table) (map asked plan.entry.before.now) (map asked plan.entry.later.now) (map asked again.entry.before.now) (map asked again.entry.later.now) → string_bytes t.first.instants ≡ string_bytes t.second.instants) }
 {
     let statements = routine.count();
     let mut k = Keeper::new(heap);
@@ -87,8 +87,8 @@ fn tell_both(
     routine: Routine,
     bytes: &[u8],
 ) -> Result<(), AllocError>
-    ensures tells { OnOk result (string_bytes out.new ≡ string_bytes out.old ++ told_lists (signals_of routine.table) (kinds_of routine.table) bytes.now) }
-    ensures same { OnOk result (SameWordsIn (signals_of routine.table) (kinds_of routine.table) bytes.now → string_bytes out.new ≡ string_bytes out.old ++ told_same (signals_of routine.table) (kinds_of routine.table) bytes.now) }
+    ensures tells { OnOk result (string_bytes out.new ≡ string_bytes out.old ++ told_lists (table_signals routine.table) (table_kinds routine.table) bytes.now) }
+    ensures same { OnOk result (SameWordsIn (table_signals routine.table) (table_kinds routine.table) bytes.now → string_bytes out.new ≡ string_bytes out.old ++ told_same (table_signals routine.table) (table_kinds routine.table) bytes.now) }
 {
     let (before, rest) = list(heap, bytes)?;
     let (later, rest) = list(heap, rest)?;

@@ -1,6 +1,6 @@
 ghost use Rattle.std.specs.Prelude.{◌≡◌, [], ◌++◌, drop, false, map, IfOk, OnOk, string_bytes, vec_items};
 ghost use Rattle.std.specs.List.{flat_map};
-ghost use Rattle.relay.specs.Promises.{ended_by, stepped_then};
+ghost use Rattle.relay.specs.Promises.{closed_by, stepped_then};
 ghost use Rattle.relay.specs.View.{tells, ear_of};
 ghost use Rattle.handover.specs.Story.{handed_text};
 ghost use Rattle.handover.specs.Texts.{told_line, instant_line};
@@ -44,7 +44,7 @@ impl Telling {
 
     // The line of the instant that the event closed, if it closed one.
     fn write_closed(&mut self, statements: usize, event: &Event) -> Result<(), AllocError>
-        ensures instants { OnOk result (string_bytes self.new.instants ≡ string_bytes self.old.instants ++ flat_map instant_line (ended_by statements (vec_items self.old.stepped) (tells event.now))) }
+        ensures instants { OnOk result (string_bytes self.new.instants ≡ string_bytes self.old.instants ++ flat_map instant_line (closed_by statements (vec_items self.old.stepped) (tells event.now))) }
         ensures text { self.new.text ≡ self.old.text }
         ensures stepped { self.new.stepped ≡ self.old.stepped }
     {
@@ -83,7 +83,7 @@ impl Telling {
 
     fn write(&mut self, statements: usize, event: &Event) -> Result<(), AllocError>
         ensures text { OnOk result (string_bytes self.new.text ≡ string_bytes self.old.text ++ told_line (vec_items self.old.stepped) (tells event.now)) }
-        ensures instants { OnOk result (string_bytes self.new.instants ≡ string_bytes self.old.instants ++ flat_map instant_line (ended_by statements (vec_items self.old.stepped) (tells event.now))) }
+        ensures instants { OnOk result (string_bytes self.new.instants ≡ string_bytes self.old.instants ++ flat_map instant_line (closed_by statements (vec_items self.old.stepped) (tells event.now))) }
         ensures stepped { OnOk result (vec_items self.new.stepped ≡ stepped_then (vec_items self.old.stepped) (tells event.now)) }
     {
         self.write_line(event)?;

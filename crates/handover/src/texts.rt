@@ -3,12 +3,12 @@ ghost use Rattle.std.specs.List.{flat_map};
 ghost use Rattle.rules.specs.Texts.{digit, hex};
 ghost use Rattle.relay.specs.View.{tells};
 ghost use Rattle.rules.specs.Model.{each_below};
-ghost use Rattle.rules.specs.Runs.{count};
+ghost use Rattle.rules.specs.Runs.{occurrences};
 ghost use Rattle.std.proofs.Math.Decide.{ℕ_discrete};
-ghost use Rattle.relay.specs.Promises.{ended_as};
+ghost use Rattle.relay.specs.Promises.{closed_as};
 ghost use Rattle.handover.specs.Texts.{letter, ended_text, numbers_text, stepped_text, told_text, instant_line, byte_text};
 
-use count::Closing;
+use occurrences::Closing;
 use relay::Event;
 use routine::Mark;
 use std::alloc::AllocError;
@@ -103,14 +103,14 @@ pub(crate) fn write_event(
 
 // How often the statement is among those that were stepped.
 fn how_often(stepped: &[usize], statement: usize) -> usize
-    ensures { result ≡ count ℕ_discrete statement stepped.now }
+    ensures { result ≡ occurrences ℕ_discrete statement stepped.now }
 {
     stepped.iter().filter(|&&k| k == statement).count()
 }
 
 // How often each of the statements was stepped.
 fn write_times(out: &mut String, statements: usize, stepped: &[usize]) -> Result<(), AllocError>
-    ensures { OnOk result (string_bytes out.new ≡ string_bytes out.old ++ numbers_text (each_below (λ i. count ℕ_discrete i stepped.now) statements)) }
+    ensures { OnOk result (string_bytes out.new ≡ string_bytes out.old ++ numbers_text (each_below (λ i. occurrences ℕ_discrete i stepped.now) statements)) }
 {
     for statement in 0..statements {
         write!(out, " {}", how_often(stepped, statement))?;
@@ -126,7 +126,7 @@ pub(crate) fn write_instant(
     marks: &[Mark],
     stepped: &[usize],
 ) -> Result<(), AllocError>
-    ensures { OnOk result (string_bytes out.new ≡ string_bytes out.old ++ instant_line (ended_as statements closing.now marks.now stepped.now)) }
+    ensures { OnOk result (string_bytes out.new ≡ string_bytes out.old ++ instant_line (closed_as statements closing.now marks.now stepped.now)) }
 {
     write_ended(out, closing, marks)?;
     write!(out, " times")?;

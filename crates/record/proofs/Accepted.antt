@@ -6,7 +6,7 @@ use Rattle.routine.specs.declared.kinds.SignalKind.{SignalKind}
 use Rattle.routine.specs.Search.{lowest, any}
 use Rattle.routine.specs.Tree.{tree_at}
 use Rattle.routine.proofs.Searches.{none_below}
-use Rattle.rules.specs.Rules.{Mark, idle, over}
+use Rattle.rules.specs.Rules.{Mark, Idle, over}
 use Rattle.rules.specs.Legal.{keeps}
 use Rattle.record.specs.declared.phases.Phase.{Phase}
 use Rattle.record.specs.declared.heads.Head.{Head}
@@ -96,7 +96,7 @@ module _ (gs : List SignalKind) (ks : List Kind) (bytes : List ℕ) (ok : taking
   abbrev ms : List Mark
   ms = marks_in (length ks) bytes
 
-  unbroken : (i : ℕ) → i < length ks → (not (is_some (get_or (marks_read (length ks) bytes) i (Some idle))) ≡ false)
+  unbroken : (i : ℕ) → i < length ks → (not (is_some (get_or (marks_read (length ks) bytes) i (Some Idle))) ≡ false)
       × ((not (keeps (is_open phase) ks ms i) || ((i == 0) && (is_over phase && not (over (tree_at ks 0) ms)))) ≡ false)
   unbroken i l = or_parts _ _ (marks_taken ks bytes three.2 i l)
 

@@ -5,7 +5,7 @@ use Rattle.std.proofs.lemmas.Nat.{le_bytes_2, le_bytes_4, le_bytes_8}
 use Rattle.std.proofs.lemmas.List.{get_or_past, length-map}
 use lib.ListN.{get_or-map}
 use Rattle.std.proofs.lemmas.List.FromFn.{length-map-range_with_len, get_or-map-range_with_len}
-use Rattle.rules.specs.Rules.{Mark, idle, waiting, underway, done, at}
+use Rattle.rules.specs.Rules.{Mark, Idle, Waiting, UnderWay, Done, at}
 use Rattle.record.specs.declared.phases.Phase.{Phase}
 use Rattle.record.specs.declared.phases.Phase.TheVariants.{Resting, Open, Over}
 use Rattle.record.specs.declared.heads.Head.{Head}
@@ -33,28 +33,28 @@ mark_again (suc (suc (suc zero))) l = refl
 mark_again (suc (suc (suc (suc b)))) l = absurd (omega arith)
 
 pub mark_read : (m : Mark) → mark_in (mark_byte m) ≡ Some m
-mark_read idle = refl
-mark_read waiting = refl
-mark_read underway = refl
-mark_read done = refl
+mark_read Idle = refl
+mark_read Waiting = refl
+mark_read UnderWay = refl
+mark_read Done = refl
 
 module _ (n : ℕ) (bytes : List ℕ) where
   length-marks_read : length (marks_read n bytes) ≡ n
   unfolding marks_read
   length-marks_read = length-map-range_with_len (λ i. mark_in (slice_index bytes (23 + i))) 0 n
 
-  pub at-marks_read : (i : ℕ) → i < n → get_or (marks_read n bytes) i (Some idle) ≡ mark_in (slice_index bytes (23 + i))
+  pub at-marks_read : (i : ℕ) → i < n → get_or (marks_read n bytes) i (Some Idle) ≡ mark_in (slice_index bytes (23 + i))
   unfolding marks_read
-  at-marks_read i l = get_or-map-range_with_len (λ (k : ℕ). mark_in (slice_index bytes (23 + k))) 0 n i i (Some idle) l (omega arith)
+  at-marks_read i l = get_or-map-range_with_len (λ (k : ℕ). mark_in (slice_index bytes (23 + k))) 0 n i i (Some Idle) l (omega arith)
 
   pub length-marks_in : length (marks_in n bytes) ≡ n
   length-marks_in = length-map (marks_read n bytes) counted ∙ length-marks_read
 
   pub at-marks_in : (i : ℕ) → i < n → at (marks_in n bytes) i ≡ counted (mark_in (slice_index bytes (23 + i)))
-  at-marks_in i l = get_or-map counted (marks_read n bytes) i (Some idle) ∙ ap counted (at-marks_read i l)
+  at-marks_in i l = get_or-map counted (marks_read n bytes) i (Some Idle) ∙ ap counted (at-marks_read i l)
 
-  pub marks_in_past : (i : ℕ) → n ≤ i → at (marks_in n bytes) i ≡ idle
-  marks_in_past i l = let m = length-marks_in in get_or_past (marks_in n bytes) i idle (omega arith)
+  pub marks_in_past : (i : ℕ) → n ≤ i → at (marks_in n bytes) i ≡ Idle
+  marks_in_past i l = let m = length-marks_in in get_or_past (marks_in n bytes) i Idle (omega arith)
 
 passes : (b : Bool) (o : Option HeadFault) (k : HeadFault) → cond b o (Some k) ≡ None → (b ≡ true) × (o ≡ None)
 passes true o k e = (refl, e)

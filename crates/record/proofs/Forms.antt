@@ -9,7 +9,7 @@ use Rattle.std.proofs.lemmas.Bool.{and_left, and_right, and_from, eq-eqb, ne_eqb
 use Rattle.routine.specs.declared.kinds.Kind.{Kind}
 use Rattle.routine.specs.declared.kinds.SignalKind.{SignalKind}
 use Rattle.routine.specs.Search.{lowest}
-use Rattle.rules.specs.Rules.{Mark, idle}
+use Rattle.rules.specs.Rules.{Mark, Idle}
 use Rattle.record.specs.Answers.{answer}
 use Rattle.record.specs.declared.phases.Phase.{Phase}
 use Rattle.record.specs.declared.heads.Head.{Head}
@@ -90,7 +90,7 @@ bytes_written n h ms l few =
     fill_by_all (byte_at cs hs ms) (written n h ms) 279 0 (length_whole cs hs bs n refl refl m few)
     (λ i k.
     place cs hs bs n refl refl m few i k
-    ∙ ap (λ b. cond (nat_lt i 8) (slice_index cs i) (cond (nat_lt i 23) (slice_index hs (i - 8)) b)) (get_or-map mark_byte ms (i - 23) idle))
+    ∙ ap (λ b. cond (nat_lt i 8) (slice_index cs i) (cond (nat_lt i 23) (slice_index hs (i - 8)) b)) (get_or-map mark_byte ms (i - 23) Idle))
 
 -- the statement whose mark is wrong, by the phase and the marks that were read
 pub fault_read : (ks : List Kind) (bytes : List ℕ) (p : Phase) (ms : List (Option Mark)) → p ≡ (head_in bytes).phase → ms ≡ marks_read (length ks) bytes

@@ -5,7 +5,7 @@ use Rattle.std.proofs.lemmas.List.FromFn.{take-map-range_with_len}
 use Rattle.routine.specs.declared.kinds.Statement.{Statement}
 use Rattle.routine.specs.declared.tables.Table.{Table}
 use Rattle.routine.specs.Kinds.{marks}
-use Rattle.routine.specs.View.{kinds_of}
+use Rattle.routine.specs.View.{table_kinds}
 use Rattle.record.specs.Taking.{mark_in, marks_read, counted, marks_in}
 use Rattle.routine.proofs.Lists.{kinds_length}
 
@@ -13,13 +13,13 @@ pub marks_length : (ss : List Statement) (n : ℕ) → n ≡ length ss → lengt
 marks_length ss n e = length-map ss (λ (r : Statement). r.mark) ∙ sym e
 
 module _ (t : Table) where
-  pub kinds_many : length (kinds_of t) ≡ vec_len t.statements
+  pub kinds_many : length (table_kinds t) ≡ vec_len t.statements
   kinds_many = kinds_length (vec_items t.statements) (vec_len t.statements) t.statements.ok.0
 
-  pub marks_many : length (marks (vec_items t.statements)) ≡ length (kinds_of t)
+  pub marks_many : length (marks (vec_items t.statements)) ≡ length (table_kinds t)
   marks_many = marks_length (vec_items t.statements) (vec_len t.statements) t.statements.ok.0 ∙ sym kinds_many
 
-  pub few_kinds : length (kinds_of t) ≤ 256
+  pub few_kinds : length (table_kinds t) ≤ 256
   few_kinds = let m = kinds_many in let l = t.most in omega arith
 
 -- the first n marks of a record

@@ -11,7 +11,7 @@ use Rattle.routine.specs.Tree.{tree_at}
 use Rattle.routine.proofs.Searches.{lowest_none}
 use Rattle.signals.specs.Sets.{empty, word_set}
 use Rattle.signals.proofs.WordSets.{word_set-zero}
-use Rattle.rules.specs.Rules.{Mark, idle, Signals, at, over}
+use Rattle.rules.specs.Rules.{Mark, Idle, Signals, at, over}
 use Rattle.rules.specs.Legal.{Legal, keeps}
 use Rattle.rules.specs.Model.{word_from}
 use Rattle.record.specs.declared.phases.Phase.{Phase}
@@ -42,7 +42,7 @@ module _ (n : ℕ) (h : Head) (ms : List Mark) (m : length ms ≡ n) (few : n �
 
   behind : (i : ℕ) → 23 + n ≤ i → i < 279 → get_or (written n h ms) i 0 ≡ get_or (contents n) i 0
   behind i l b =
-      of_mark i (omega arith) b ∙ ap mark_byte (get_or_past ms (i - 23) idle (omega arith)) ∙ sym (get_or_past (contents n) i 0 (omega arith))
+      of_mark i (omega arith) b ∙ ap mark_byte (get_or_past ms (i - 23) Idle (omega arith)) ∙ sym (get_or_past (contents n) i 0 (omega arith))
 
   right_there : (i : ℕ) → get_or (written n h ms) i 0 ≡ get_or (contents n) i 0 → is_wrong n (written n h ms) i ≡ false
   right_there i e = and_right (is_fixed n i) _ (not_from_true _ (eq-eqb (get_or (written n h ms) i 0) (get_or (contents n) i 0) e))
@@ -77,12 +77,12 @@ module _ (n : ℕ) (h : Head) (ms : List Mark) (m : length ms ≡ n) (few : n �
   phase_said = ap (λ bs. phase_in (get_or bs 0 0)) head_written ∙ phase_read h.phase
 
   -- each statement has a mark
-  mark_said : (i : ℕ) → i < n → is_some (get_or (marks_read n (written n h ms)) i (Some idle)) ≡ true
+  mark_said : (i : ℕ) → i < n → is_some (get_or (marks_read n (written n h ms)) i (Some Idle)) ≡ true
   mark_said i l = ap is_some (at-marks_read n (written n h ms) i l ∙ ap mark_in (mark_written i (omega arith)) ∙ mark_read (at ms i))
 
   marks_same : marks_in n (written n h ms) ≡ ms
   marks_same =
-      ext_get_or idle (marks_in n (written n h ms)) ms (length-marks_in n (written n h ms) ∙ sym m)
+      ext_get_or Idle (marks_in n (written n h ms)) ms (length-marks_in n (written n h ms) ∙ sym m)
       (λ i b. let l : i < n = omega (arith, length-marks_in n (written n h ms)) in
       at-marks_in n (written n h ms) i l ∙ ap (λ b. counted (mark_in b)) (mark_written i (omega arith)) ∙ ap counted (mark_read (at ms i)))
 
@@ -98,14 +98,14 @@ module _ (n : ℕ) (h : Head) (ms : List Mark) (m : length ms ≡ n) (few : n �
 
 -- what the fields of a sound state come to
 steps_kept : (p : Phase) (steps : ℕ) → (is_open p ≡ false → steps ≡ 0) → steps_written p steps ≡ steps
-steps_kept Resting steps calm = sym (calm refl)
-steps_kept Open steps calm = refl
-steps_kept Over steps calm = sym (calm refl)
+steps_kept Resting steps no_steps = sym (no_steps refl)
+steps_kept Open steps no_steps = refl
+steps_kept Over steps no_steps = sym (no_steps refl)
 
 set_kept : (p : Phase) (g : ℕ) (e : Signals) → (is_open p ≡ false → e ≡ empty) → Within g e → length e ≡ 64 → word_set (word_written p g e) ≡ e
-set_kept Resting g e still h l = word_set-zero ∙ sym (still refl)
-set_kept Open g e still h l = set_again e g l h
-set_kept Over g e still h l = word_set-zero ∙ sym (still refl)
+set_kept Resting g e no_signals h l = word_set-zero ∙ sym (no_signals refl)
+set_kept Open g e no_signals h l = set_again e g l h
+set_kept Over g e no_signals h l = word_set-zero ∙ sym (no_signals refl)
 
 pub word_fits : (p : Phase) (g : ℕ) (e : Signals) → g ≤ 64 → word_written p g e < 2 ^ 64
 word_fits Resting g e few = omega arith
@@ -124,10 +124,10 @@ no_fault Open g closed steps e room =
 no_fault Over g closed steps e room = refl
 
 -- statement i breaks no rule
-unbroken : (ks : List Kind) (p : Phase) (ms : List (Option Mark)) (i : ℕ) → is_some (get_or ms i (Some idle)) ≡ true → keeps (is_open p) ks (map counted ms) i ≡ true
+unbroken : (ks : List Kind) (p : Phase) (ms : List (Option Mark)) (i : ℕ) → is_some (get_or ms i (Some Idle)) ≡ true → keeps (is_open p) ks (map counted ms) i ≡ true
     → (is_over p ≡ true → over (tree_at ks 0) (map counted ms) ≡ true) → breaks ks p ms i ≡ false
 unbroken ks p ms i l k f =
-    or_from (not (is_some (get_or ms i (Some idle)))) _ (not_from_true _ l)
+    or_from (not (is_some (get_or ms i (Some Idle)))) _ (not_from_true _ l)
     (or_from (not (keeps (is_open p) ks (map counted ms) i)) _ (not_from_true _ k) (and_right (i == 0) _ (ended (is_over p) (over (tree_at ks 0) (map counted ms)) f)))
   where
     ended : (a b : Bool) → (a ≡ true → b ≡ true) → (a && not b) ≡ false
@@ -184,7 +184,7 @@ module _ (gs : List SignalKind) (ks : List Kind) (s : State) (most : length ks �
   bytes = record_of (length gs) (length ks) s
 
   steps_small : h.steps < 65536
-  steps_small = let e = steps_kept s.phase s.steps sound.calm in let f = sound.steps_fit in omega arith
+  steps_small = let e = steps_kept s.phase s.steps sound.no_steps in let f = sound.steps_fit in omega arith
 
   word_small : h.present < 2 ^ 64
   word_small = word_fits s.phase (length gs) s.present few
@@ -202,8 +202,8 @@ module _ (gs : List SignalKind) (ks : List Kind) (s : State) (most : length ks �
 
   said : state_in (length ks) bytes ≡ s
   said =
-      let p = steps_kept s.phase s.steps sound.calm in
-      let q = set_kept s.phase (length gs) s.present sound.still sound.within sound.sized in
+      let p = steps_kept s.phase s.steps sound.no_steps in
+      let q = set_kept s.phase (length gs) s.present sound.no_signals sound.within sound.sized in
       state_read (length ks) bytes h s.marks head_said marks_said
       ∙ (λ i. record { phase = s.phase; closed = s.closed; steps = p i; marks = s.marks; present = q i })
 

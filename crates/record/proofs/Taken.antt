@@ -50,8 +50,8 @@ taken_sound gs ks bytes some small ok =
     record {
       legal = record { many = length-marks_in (length ks) bytes; each = each_keeps gs ks bytes ok };
       finished = at_end gs ks bytes ok some;
-      calm = λ o. (zeros h.phase g h e o).0;
-      still = λ o. ap word_set (zeros h.phase g h e o).1 ∙ word_set-zero;
+      no_steps = λ o. (zeros h.phase g h e o).0;
+      no_signals = λ o. ap word_set (zeros h.phase g h e o).1 ∙ word_set-zero;
       within = word_within h.present g (present_below h.phase g h e);
       sized = length-word_set h.present;
       room = λ o. let n = not_last h.phase g h e o in omega (arith, c, n);

@@ -1,7 +1,7 @@
 -- the hand-over record: 279 bytes that say what a count is at
 use Rattle.std.specs.Prelude.{ℕ, ◌-◌, List, ◌∷◌, ◌++◌, map, replicate, slice_index_or, slice_index, false, cond, nat_lt}
 use Rattle.std.specs.Int.{w16, w32, w64, to_le_bytes}
-use Rattle.rules.specs.Rules.{Mark, idle, waiting, underway, done, Signals, at}
+use Rattle.rules.specs.Rules.{Mark, Idle, Waiting, UnderWay, Done, Signals, at}
 use Rattle.rules.specs.Model.{word_from}
 use Rattle.record.specs.declared.phases.Phase.{Phase}
 use Rattle.record.specs.declared.phases.Phase.TheVariants.{Resting, Open, Over}
@@ -14,10 +14,10 @@ phase_byte Open = 1
 phase_byte Over = 2
 
 abbrev pub mark_byte : Mark → ℕ
-mark_byte idle = 0
-mark_byte waiting = 1
-mark_byte underway = 2
-mark_byte done = 3
+mark_byte Idle = 0
+mark_byte Waiting = 1
+mark_byte UnderWay = 2
+mark_byte Done = 3
 
 -- the contents: where the head lies and how long it is, where the marks lie and how many there are
 abbrev pub contents : ℕ → List ℕ

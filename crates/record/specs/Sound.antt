@@ -18,8 +18,8 @@ Within g e = (s : ℕ) → g ≤ s → slice_index_or e s false ≡ false
 pub record Sound (gs : List SignalKind) (ks : List Kind) (s : State) : Type 0 where
   pub legal : Legal (is_open s.phase) ks s.marks
   pub finished : is_over s.phase ≡ true → over (tree_at ks 0) s.marks ≡ true
-  pub calm : is_open s.phase ≡ false → s.steps ≡ 0
-  pub still : is_open s.phase ≡ false → s.present ≡ empty
+  pub no_steps : is_open s.phase ≡ false → s.steps ≡ 0
+  pub no_signals : is_open s.phase ≡ false → s.present ≡ empty
   pub within : Within (length gs) s.present
   pub sized : length s.present ≡ 64
   pub room : is_open s.phase ≡ true → s.closed < 4294967295

@@ -9,7 +9,7 @@ use Rattle.routine.specs.declared.refusals.Refusal.TheVariants.{RecordForm, Reco
 use Rattle.routine.specs.Search.{lowest, any}
 use Rattle.routine.specs.Tree.{tree_at}
 use Rattle.signals.specs.Sets.{word_set}
-use Rattle.rules.specs.Rules.{Mark, idle, waiting, underway, done, over}
+use Rattle.rules.specs.Rules.{Mark, Idle, Waiting, UnderWay, Done, over}
 use Rattle.rules.specs.Legal.{keeps}
 use Rattle.record.specs.declared.phases.Phase.{Phase}
 use Rattle.record.specs.declared.phases.Phase.TheVariants.{Resting, Open, Over}
@@ -94,14 +94,14 @@ head_read g bytes = answer (head_fault g bytes) (head_in bytes)
 
 -- MARKS. A byte above 3 is no mark
 abbrev pub mark_in : ℕ → Option Mark
-mark_in b = cond (b == 0) (Some idle) (cond (b == 1) (Some waiting) (cond (b == 2) (Some underway) (cond (b == 3) (Some done) None)))
+mark_in b = cond (b == 0) (Some Idle) (cond (b == 1) (Some Waiting) (cond (b == 2) (Some UnderWay) (cond (b == 3) (Some Done) None)))
 
 unfoldable pub marks_read : ℕ → List ℕ → List (Option Mark)
 marks_read n bytes = map (λ i. mark_in (slice_index bytes (23 + i))) (range_with_len 0 n)
 
 -- to the rules of other statements, what is no mark is a live one, neither waiting nor done
 abbrev pub counted : Option Mark → Mark
-counted None = underway
+counted None = UnderWay
 counted (Some mark) = mark
 
 abbrev pub marks_in : ℕ → List ℕ → List Mark
@@ -110,7 +110,7 @@ marks_in n bytes = map counted (marks_read n bytes)
 -- statement i breaks its rule: it has no mark, or marks are not legal there, or statement 0 is not over at the end
 abbrev pub breaks : List Kind → Phase → List (Option Mark) → ℕ → Bool
 breaks ks phase ms i =
-    not (is_some (slice_index_or ms i (Some idle)))
+    not (is_some (slice_index_or ms i (Some Idle)))
     || (not (keeps (is_open phase) ks (map counted ms) i) || ((i == 0) && (is_over phase && not (over (tree_at ks 0) (map counted ms)))))
 
 unfoldable pub marks_fault : List Kind → List ℕ → Option ℕ

@@ -2,8 +2,8 @@ ghost use Rattle.std.specs.Prelude.{◌≡◌, ◌≤◌, Some, length, map, sli
 ghost use Rattle.routine.specs.Kinds.{shape_at};
 ghost use Rattle.routine.specs.Search.{lowest};
 ghost use Rattle.routine.specs.Tree.{tree_at};
-ghost use Rattle.routine.specs.View.{kinds_of};
-ghost use Rattle.rules.specs.Rules.{idle, at, is_live, over, reached};
+ghost use Rattle.routine.specs.View.{table_kinds};
+ghost use Rattle.rules.specs.Rules.{Idle, at, is_live, over, reached};
 ghost use Rattle.rules.specs.Legal.{row_legal, open_legal, keeps};
 ghost use Rattle.record.specs.Taking.{counted, breaks};
 
@@ -22,7 +22,7 @@ pub(crate) struct Candidate<'a> {
 impl Candidate<'_> {
     // The mark of statement i, if it has one; idle beyond the last.
     fn read(&self, i: usize) -> Option<Mark>
-        ensures { result ≡ slice_index_or self.now.marks.now i (Some idle) }
+        ensures { result ≡ slice_index_or self.now.marks.now i (Some Idle) }
     {
         self.marks.get(i).copied().unwrap_or(Some(Mark::Idle))
     }
@@ -42,7 +42,7 @@ impl Candidate<'_> {
 
     // Is statement i over?
     fn over(&self, i: usize) -> bool
-        ensures { result ≡ over (tree_at (kinds_of self.now.routine.now.table) i) (map counted self.now.marks.now) }
+        ensures { result ≡ over (tree_at (table_kinds self.now.routine.now.table) i) (map counted self.now.marks.now) }
     {
         let kind = self.routine.table.kind(i);
         if self.mark(i) == Mark::Done {
@@ -62,7 +62,7 @@ impl Candidate<'_> {
 
     // Is k statement i or inside it, and not inside a local that is shut?
     fn reached(&self, i: usize, k: usize) -> bool
-        ensures { result ≡ reached (tree_at (kinds_of self.now.routine.now.table) i) (map counted self.now.marks.now) k }
+        ensures { result ≡ reached (tree_at (table_kinds self.now.routine.now.table) i) (map counted self.now.marks.now) k }
     {
         let kind = self.routine.table.kind(i);
         if k == i {
@@ -84,7 +84,7 @@ impl Candidate<'_> {
 
     // Do the marks of statement i and of its parts go together?
     fn row_legal(&self, i: usize) -> bool
-        ensures { result ≡ row_legal (map counted self.now.marks.now) i (shape_at (kinds_of self.now.routine.now.table) i) }
+        ensures { result ≡ row_legal (map counted self.now.marks.now) i (shape_at (table_kinds self.now.routine.now.table) i) }
     {
         match (self.routine.table.kind(i), self.mark(i)) {
             (Kind::Nothing, mark) => matches!(mark, Mark::Idle | Mark::Done),
@@ -116,25 +116,25 @@ impl Candidate<'_> {
     }
 
     // If statement i is a local that is open: is an instant open, and the local not inside one that is shut?
-    fn open_legal(&self, now: bool, i: usize) -> bool
-        ensures { result ≡ open_legal now (kinds_of self.now.routine.now.table) (map counted self.now.marks.now) i }
+    fn open_legal(&self, in_instant: bool, i: usize) -> bool
+        ensures { result ≡ open_legal in_instant (table_kinds self.now.routine.now.table) (map counted self.now.marks.now) i }
     {
         match (self.routine.table.kind(i), self.mark(i)) {
-            (Kind::Local { .. }, Mark::UnderWay) => now && self.reached(0, i),
+            (Kind::Local { .. }, Mark::UnderWay) => in_instant && self.reached(0, i),
             _ => true,
         }
     }
 
-    // Does statement i keep its rule, where `now` says whether an instant is open?
-    fn keeps(&self, now: bool, i: usize) -> bool
-        ensures { result ≡ keeps now (kinds_of self.now.routine.now.table) (map counted self.now.marks.now) i }
+    // Does statement i keep its rule, where `in_instant` says whether an instant is open?
+    fn keeps(&self, in_instant: bool, i: usize) -> bool
+        ensures { result ≡ keeps in_instant (table_kinds self.now.routine.now.table) (map counted self.now.marks.now) i }
     {
-        (i != 0 || self.is_live(0)) && self.row_legal(i) && self.open_legal(now, i)
+        (i != 0 || self.is_live(0)) && self.row_legal(i) && self.open_legal(in_instant, i)
     }
 
     // Does statement i break its rule in a record of that phase?
     fn breaks(&self, phase: Phase, i: usize) -> bool
-        ensures { result ≡ breaks (kinds_of self.now.routine.now.table) phase self.now.marks.now i }
+        ensures { result ≡ breaks (table_kinds self.now.routine.now.table) phase self.now.marks.now i }
     {
         self.read(i).is_none()
             || !self.keeps(phase == Phase::Open, i)
@@ -143,7 +143,7 @@ impl Candidate<'_> {
 
     // The lowest statement that does.
     pub(crate) fn offender(&self, phase: Phase) -> Option<usize>
-        ensures { result ≡ lowest (breaks (kinds_of self.now.routine.now.table) phase self.now.marks.now) (length (kinds_of self.now.routine.now.table)) }
+        ensures { result ≡ lowest (breaks (table_kinds self.now.routine.now.table) phase self.now.marks.now) (length (table_kinds self.now.routine.now.table)) }
     {
         (0..self.routine.count()).find(|&i| self.breaks(phase, i))
     }

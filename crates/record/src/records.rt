@@ -1,6 +1,6 @@
 ghost use Rattle.std.specs.Prelude.{◌≡◌, ◌<◌, ◌≤◌, None, length, map};
 ghost use Rattle.routine.specs.Kinds.{marks as marks_listed};
-ghost use Rattle.routine.specs.View.{kinds_of, signals_of};
+ghost use Rattle.routine.specs.View.{table_kinds, table_signals};
 ghost use Rattle.rules.specs.Rules.{at};
 ghost use Rattle.record.specs.Answers.{answer};
 ghost use Rattle.record.specs.Record.{contents, written, byte_at};
@@ -22,7 +22,7 @@ pub struct Saved {
 
 // Where the head lies and how long it is, and the same of the marks.
 fn contents_of(routine: &Routine) -> [u8; 8]
-    ensures { result ≡ contents (length (kinds_of routine.now.table)) }
+    ensures { result ≡ contents (length (table_kinds routine.now.table)) }
 {
     let [low, high] = (routine.count() as u16).to_le_bytes();
     [8, 0, 15, 0, 23, 0, low, high]
@@ -30,8 +30,8 @@ fn contents_of(routine: &Routine) -> [u8; 8]
 
 // The record of where a count stands, which `read` accepts.
 pub fn write(standing: Standing<'_>) -> [u8; 279]
-    ensures bytes { result ≡ written (length (kinds_of standing.entry.routine.now.table)) standing.entry.head (marks_listed standing.entry.routine.now.table.statements.items) }
-    ensures accepted { taking_refusal (signals_of standing.entry.routine.now.table) (kinds_of standing.entry.routine.now.table) result ≡ None }
+    ensures bytes { result ≡ written (length (table_kinds standing.entry.routine.now.table)) standing.entry.head (marks_listed standing.entry.routine.now.table.statements.items) }
+    ensures accepted { taking_refusal (table_signals standing.entry.routine.now.table) (table_kinds standing.entry.routine.now.table) result ≡ None }
 {
     let routine = standing.routine;
     let contents = contents_of(routine);
@@ -72,7 +72,7 @@ fn is_wrong(bytes: &[u8; 279], expected: &[u8; 8], n: usize, i: usize) -> bool
 }
 
 fn is_fixed_right(bytes: &[u8; 279], routine: &Routine) -> bool
-    ensures { result ≡ is_fixed_right (length (kinds_of routine.now.table)) bytes.now }
+    ensures { result ≡ is_fixed_right (length (table_kinds routine.now.table)) bytes.now }
 {
     let expected = contents_of(routine);
     let n = routine.count();
@@ -81,7 +81,7 @@ fn is_fixed_right(bytes: &[u8; 279], routine: &Routine) -> bool
 
 // The head that stands in the record, or what is wrong with its first bad field.
 fn head(bytes: &[u8; 279], routine: &Routine) -> Result<Head, HeadFault>
-    ensures { result ≡ head_read (length (signals_of routine.now.table)) bytes.now }
+    ensures { result ≡ head_read (length (table_signals routine.now.table)) bytes.now }
 {
     let Some(phase) = Phase::from_byte(bytes[8]) else {
         return Err(HeadFault::NoPhase);
@@ -115,7 +115,7 @@ fn all_counted(marks: &[Option<Mark>; 256]) -> [Mark; 256]
 }
 
 fn read_whole(bytes: &[u8; 279], routine: &Routine) -> Result<Saved, Refusal>
-    ensures { result ≡ answer (taking_refusal (signals_of routine.now.table) (kinds_of routine.now.table) bytes.now) (saved_in bytes.now) }
+    ensures { result ≡ answer (taking_refusal (table_signals routine.now.table) (table_kinds routine.now.table) bytes.now) (saved_in bytes.now) }
 {
     if !is_fixed_right(bytes, routine) {
         return Err(Refusal::RecordForm);
@@ -142,7 +142,7 @@ fn read_whole(bytes: &[u8; 279], routine: &Routine) -> Result<Saved, Refusal>
 
 // What the record says, or why it is none of the routine.
 pub fn read(bytes: &[u8], routine: &Routine) -> Result<Saved, Refusal>
-    ensures { result ≡ answer (taking_refusal (signals_of routine.now.table) (kinds_of routine.now.table) bytes.now) (saved_in bytes.now) }
+    ensures { result ≡ answer (taking_refusal (table_signals routine.now.table) (table_kinds routine.now.table) bytes.now) (saved_in bytes.now) }
 {
     match bytes.as_array::<279>() {
         Some(bytes) => read_whole(bytes, routine),

@@ -1,7 +1,7 @@
 ghost use Rattle.std.specs.Prelude.{◌≡◌, ℕ, ◌<◌, true, None, length};
 ghost use Rattle.routine.specs.Kinds.{marks};
 ghost use Rattle.routine.specs.Tree.{tree_at};
-ghost use Rattle.routine.specs.View.{kinds_of, signals_of};
+ghost use Rattle.routine.specs.View.{table_kinds, table_signals};
 ghost use Rattle.rules.specs.Rules.{over};
 ghost use Rattle.rules.specs.Legal.{keeps};
 ghost use Rattle.record.specs.Phases.{is_open, is_over};
@@ -15,7 +15,7 @@ use routine::Routine;
 pub struct Standing<'a> {
     pub head: Head,
     pub routine: &'a Routine,
-    ghost faultless: { fault_by head.phase (length (signals_of routine.now.table)) head ≡ None },
-    ghost legal: { ((i : ℕ) → i < length (kinds_of routine.now.table) → keeps (is_open head.phase) (kinds_of routine.now.table) (marks routine.now.table.statements.items) i ≡ true) },
-    ghost finished: { (is_over head.phase ≡ true → over (tree_at (kinds_of routine.now.table) 0) (marks routine.now.table.statements.items) ≡ true) },
+    ghost faultless: { fault_by head.phase (length (table_signals routine.now.table)) head ≡ None },
+    ghost legal: { ((i : ℕ) → i < length (table_kinds routine.now.table) → keeps (is_open head.phase) (table_kinds routine.now.table) (marks routine.now.table.statements.items) i ≡ true) },
+    ghost finished: { (is_over head.phase ≡ true → over (tree_at (table_kinds routine.now.table) 0) (marks routine.now.table.statements.items) ≡ true) },
 }

@@ -13,11 +13,11 @@ use Rattle.count.proofs.Sound.{never}
 use Rattle.relay.specs.Asked.{Asked}
 use Rattle.record.specs.State.{State}
 use Rattle.count.specs.Calls.{new_state}
-use Rattle.relay.specs.History.{Past, begins, steps, closes, reacts, takes_over, refuses, past_of, after_call, pasts, after_calls}
-use Rattle.relay.specs.Promises.{taken, accepted, Ended, ended, AsModel, SameInstants}
+use Rattle.relay.specs.History.{Transition, begins, steps, closes, reacts, takes_over, refuses, transition_of, after_call, trace, after_calls}
+use Rattle.relay.specs.Promises.{taken, accepted, ClosedInstant, closed_instants, AsModel, SameInstants}
 use Rattle.relay.proofs.Instants.{few_steps, Stands, between, inside, Follows, by_call}
 
-untaken : (p : Past) (ps : List Past) → taken (p ∷ ps) ≡ false → (p ≢ takes_over) × (taken ps ≡ false)
+untaken : (p : Transition) (ps : List Transition) → taken (p ∷ ps) ≡ false → (p ≢ takes_over) × (taken ps ≡ false)
 untaken (begins w) ps t = (λ h. (cc), t)
 untaken (steps k) ps t = (λ h. (cc), t)
 untaken (closes c ms) ps t = (λ h. (cc), t)
@@ -26,10 +26,10 @@ untaken takes_over ps t = absurd (never true refl t)
 untaken (refuses r) ps t = (λ h. (cc), t)
 
 -- one list of calls after another
-pub pasts_append : (gs : List SignalKind) (ks : List Kind) (cs ds : List Asked) (s : State) → pasts gs ks s (cs ++ ds) ≡ pasts gs ks s cs ++ pasts gs ks (after_calls gs ks s cs) ds
-unfolding pasts after_calls
-pasts_append gs ks [] ds s = refl
-pasts_append gs ks (c ∷ cs) ds s = ap (λ (ps : List Past). past_of gs ks s c ∷ ps) (pasts_append gs ks cs ds (after_call gs ks s c))
+pub trace_append : (gs : List SignalKind) (ks : List Kind) (cs ds : List Asked) (s : State) → trace gs ks s (cs ++ ds) ≡ trace gs ks s cs ++ trace gs ks (after_calls gs ks s cs) ds
+unfolding trace after_calls
+trace_append gs ks [] ds s = refl
+trace_append gs ks (c ∷ cs) ds s = ap (λ (ps : List Transition). transition_of gs ks s c ∷ ps) (trace_append gs ks cs ds (after_call gs ks s c))
 
 pub after_append : (gs : List SignalKind) (ks : List Kind) (cs ds : List Asked) (s : State) → after_calls gs ks s (cs ++ ds) ≡ after_calls gs ks (after_calls gs ks s cs) ds
 unfolding after_calls
@@ -49,18 +49,18 @@ module _ (gs : List SignalKind) (ks : List Kind) where
   first_words ms (w ∷ ws) zero = refl
   first_words ms (w ∷ ws) (suc k) = first_words (instant gs ks ms w).marks ws k
 
-  outcome_at : (ps : List Past) (k : ℕ) (e : Ended) → AsModel gs ks ps → slice_get (ended (length ks) [] ps) k ≡ Some e
+  outcome_at : (ps : List Transition) (k : ℕ) (e : ClosedInstant) → AsModel gs ks ps → slice_get (closed_instants (length ks) [] ps) k ≡ Some e
       → Some e.outcome ≡ slice_get (model gs ks (take (k + 1) (accepted ps))) k
   outcome_at ps k e M h =
-      let es = ended (length ks) [] ps in
-      sym (slice_get-map (λ (x : Ended). x.outcome) es k ∙ ap (option_map (λ (x : Ended). x.outcome)) h)
+      let es = closed_instants (length ks) [] ps in
+      sym (slice_get-map (λ (x : ClosedInstant). x.outcome) es k ∙ ap (option_map (λ (x : ClosedInstant). x.outcome)) h)
       ∙ ap (λ (os : List Outcome). slice_get os k) M.instants
       ∙ slice_get-take (model gs ks (accepted ps)) (length es) k (slice_get_within es k e h)
       ∙ first_words (first_marks ks) (accepted ps) k
       ∙ ap (λ (n : ℕ). slice_get (model gs ks (take n (accepted ps))) k) (sym (add-one k))
 
   -- so two lists of which each is as the model says agree
-  pub same_instants : (ps qs : List Past) → AsModel gs ks ps → AsModel gs ks qs → SameInstants (length ks) ps qs
+  pub same_instants : (ps qs : List Transition) → AsModel gs ks ps → AsModel gs ks qs → SameInstants (length ks) ps qs
   same_instants ps qs M N k same a b g h =
       let o : a.outcome ≡ b.outcome =
       same_Some _ _ (outcome_at ps k a M g ∙ ap (λ (ws : List ℕ). slice_get (model gs ks ws) k) same ∙ sym (outcome_at qs k b N h)) in
@@ -76,17 +76,17 @@ module _ (gs : List SignalKind) (ks : List Kind) (C : Checked gs ks) (few : leng
       so_far (between o L e) = let l = ap length e in omega arith
       so_far (inside {ms = ms} {word = word} o L r e) = few_steps gs ks C few ms word L r
 
-  follows : (cs : List Asked) (s : State) (v : List ℕ) {ms : List Mark} {ws : List ℕ} → Stands gs ks C few s v ms ws → taken (pasts gs ks s cs) ≡ false → Follows gs ks C few ms ws s v (pasts gs ks s cs)
-  unfolding pasts
+  follows : (cs : List Asked) (s : State) (v : List ℕ) {ms : List Mark} {ws : List ℕ} → Stands gs ks C few s v ms ws → taken (trace gs ks s cs) ≡ false → Follows gs ks C few ms ws s v (trace gs ks s cs)
+  unfolding trace
   follows [] s v S t = no_calls s v S
   follows (c ∷ cs) s v S t =
       let b = after_call gs ks s c in
-      let u = untaken (past_of gs ks s c) (pasts gs ks b cs) t in
+      let u = untaken (transition_of gs ks s c) (trace gs ks b cs) t in
       let l = by_call gs ks C few s c S u.0 in
-      l.before (pasts gs ks b cs) (follows cs b l.stepped_then l.stands u.1)
+      l.before (trace gs ks b cs) (follows cs b l.stepped_then l.stands u.1)
 
   -- what calls on a new count come to is as the model says
-  pub as_model : (cs : List Asked) → taken (pasts gs ks (new_state ks) cs) ≡ false → AsModel gs ks (pasts gs ks (new_state ks) cs)
+  pub as_model : (cs : List Asked) → taken (trace gs ks (new_state ks) cs) ≡ false → AsModel gs ks (trace gs ks (new_state ks) cs)
   as_model cs t =
       let F = follows cs (new_state ks) [] (between refl (marks_stay_legal gs ks C).starts refl) t in
       record { instants = F.instants; numbers = λ k e h. F.numbers k e h ∙ omega arith; counted = F.counted; closed_steps = F.closed_steps; open_steps = F.open_steps }

@@ -26,8 +26,8 @@ use Rattle.record.specs.Taking.{taking_refusal}
 use Rattle.count.specs.Calls.{after, steps_from, one_more, phase_after, begin_by, begin_refusal, begin_state, step_refusal, step_state, close_refusal, close_state, closing, react_closing, react_state}
 use Rattle.count.proofs.Sound.{never, same_phase, after_not_open}
 use Rattle.relay.specs.Asked.{Asked, begin, step, close, react, take_over}
-use Rattle.relay.specs.History.{Past, begins, steps, closes, reacts, takes_over, if_accepted, past_of, after_call}
-use Rattle.relay.specs.Promises.{accepted, Ended, ended, left_open}
+use Rattle.relay.specs.History.{Transition, begins, steps, closes, reacts, takes_over, if_accepted, transition_of, after_call}
+use Rattle.relay.specs.Promises.{accepted, ClosedInstant, closed_instants, left_open}
 use Rattle.relay.proofs.Accepted.{was_ready, none_ready}
 
 -- one step more at the end of a run
@@ -71,25 +71,25 @@ module _ (gs : List SignalKind) (ks : List Kind) (C : Checked gs ks) (few : leng
 
   -- the ended instants es, after n others, are what the model gives for the words ws from the marks ms on, numbered, of few
   -- steps each; v: the steps of an instant that was left open
-  pub record AsModelFrom (ms : List Mark) (n : ℕ) (ws : List ℕ) (es : List Ended) (v : List ℕ) : Type 0 where
-    pub instants : map (λ (e : Ended). e.outcome) es ≡ take (length es) (instants_from gs ks ms ws)
-    pub numbers : (k : ℕ) (e : Ended) → slice_get es k ≡ Some e → e.instant ≡ n + (k + 1)
-    pub counted : (k : ℕ) (e : Ended) → slice_get es k ≡ Some e → e.outcome.steps ≡ e.accepted_steps
-    pub closed_steps : (k : ℕ) (e : Ended) → slice_get es k ≡ Some e → e.accepted_steps ≤ 4 * length ks
+  pub record AsModelFrom (ms : List Mark) (n : ℕ) (ws : List ℕ) (es : List ClosedInstant) (v : List ℕ) : Type 0 where
+    pub instants : map (λ (e : ClosedInstant). e.outcome) es ≡ take (length es) (instants_from gs ks ms ws)
+    pub numbers : (k : ℕ) (e : ClosedInstant) → slice_get es k ≡ Some e → e.instant ≡ n + (k + 1)
+    pub counted : (k : ℕ) (e : ClosedInstant) → slice_get es k ≡ Some e → e.outcome.steps ≡ e.accepted_steps
+    pub closed_steps : (k : ℕ) (e : ClosedInstant) → slice_get es k ≡ Some e → e.accepted_steps ≤ 4 * length ks
     pub open_steps : length v ≤ 4 * length ks
 
   -- one instant more in front
-  module _ (ms : List Mark) (n word t : ℕ) (o : Outcome) (L : Legal true ks ms) (same : o ≡ instant gs ks ms word) (all : o.steps ≡ t) (ws : List ℕ) (es : List Ended) (v : List ℕ)
+  module _ (ms : List Mark) (n word t : ℕ) (o : Outcome) (L : Legal true ks ms) (same : o ≡ instant gs ks ms word) (all : o.steps ≡ t) (ws : List ℕ) (es : List ClosedInstant) (v : List ℕ)
       (F : AsModelFrom o.marks (n + 1) ws es v) where
-    abbrev e : Ended
+    abbrev e : ClosedInstant
     e = record { instant = n + 1; accepted_steps = t; outcome = o }
 
-    number : (k : ℕ) (x : Ended) → slice_get (e ∷ es) k ≡ Some x → x.instant ≡ n + (k + 1)
-    number zero x h = ap (λ (y : Ended). y.instant) (sym (same_Some _ x h)) ∙ omega arith
+    number : (k : ℕ) (x : ClosedInstant) → slice_get (e ∷ es) k ≡ Some x → x.instant ≡ n + (k + 1)
+    number zero x h = ap (λ (y : ClosedInstant). y.instant) (sym (same_Some _ x h)) ∙ omega arith
     number (suc k) x h = let f = F.numbers k x h in omega arith
 
-    counts : (k : ℕ) (x : Ended) → slice_get (e ∷ es) k ≡ Some x → x.outcome.steps ≡ x.accepted_steps
-    counts zero x h = subst (λ (y : Ended). y.outcome.steps ≡ y.accepted_steps) (same_Some _ x h) all
+    counts : (k : ℕ) (x : ClosedInstant) → slice_get (e ∷ es) k ≡ Some x → x.outcome.steps ≡ x.accepted_steps
+    counts zero x h = subst (λ (y : ClosedInstant). y.outcome.steps ≡ y.accepted_steps) (same_Some _ x h) all
     counts (suc k) x h = F.counted k x h
 
     few_taken : t ≤ 4 * length ks
@@ -98,8 +98,8 @@ module _ (gs : List SignalKind) (ks : List Kind) (C : Checked gs ks) (few : leng
         let l = few_steps ms word L (model_runs ms word L) in
         omega (arith, all)
 
-    bounded : (k : ℕ) (x : Ended) → slice_get (e ∷ es) k ≡ Some x → x.accepted_steps ≤ 4 * length ks
-    bounded zero x h = subst (λ (y : Ended). y.accepted_steps ≤ 4 * length ks) (same_Some _ x h) few_taken
+    bounded : (k : ℕ) (x : ClosedInstant) → slice_get (e ∷ es) k ≡ Some x → x.accepted_steps ≤ 4 * length ks
+    bounded zero x h = subst (λ (y : ClosedInstant). y.accepted_steps ≤ 4 * length ks) (same_Some _ x h) few_taken
     bounded (suc k) x h = F.closed_steps k x h
 
     one_ended : AsModelFrom ms n (word ∷ ws) (e ∷ es) v
@@ -113,16 +113,16 @@ module _ (gs : List SignalKind) (ks : List Kind) (C : Checked gs ks) (few : leng
         }
 
   -- so it is of the calls from s on, which came to ps, where v was stepped before
-  abbrev pub Follows : List Mark → List ℕ → State → List ℕ → List Past → Type 0
-  Follows ms ws s v ps = AsModelFrom ms s.closed (ws ++ accepted ps) (ended (length ks) v ps) (left_open v ps)
+  abbrev pub Follows : List Mark → List ℕ → State → List ℕ → List Transition → Type 0
+  Follows ms ws s v ps = AsModelFrom ms s.closed (ws ++ accepted ps) (closed_instants (length ks) v ps) (left_open v ps)
 
   -- a call came to p and leads from s to t, and it is so of the calls from s on where it is so of those from t on
-  pub record Leads (s : State) (v : List ℕ) (t : State) (p : Past) (ms : List Mark) (ws : List ℕ) : Type 0 where
+  pub record Leads (s : State) (v : List ℕ) (t : State) (p : Transition) (ms : List Mark) (ws : List ℕ) : Type 0 where
     pub stepped_then : List ℕ
     pub marks : List Mark
     pub words : List ℕ
     pub stands : Stands t stepped_then marks words
-    pub before : (ps : List Past) → Follows marks words t stepped_then ps → Follows ms ws s v (p ∷ ps)
+    pub before : (ps : List Transition) → Follows marks words t stepped_then ps → Follows ms ws s v (p ∷ ps)
 
   module _ (s : State) {v : List ℕ} where
     by_begin : (word : ℕ) {ms : List Mark} {ws : List ℕ} → Stands s v ms ws → begin_refusal gs s word ≡ None → Leads s v (begin_state s word) (begins word) ms ws
@@ -154,7 +154,7 @@ module _ (gs : List SignalKind) (ks : List Kind) (C : Checked gs ks) (few : leng
           marks = (close_state ks s).marks;
           words = [];
           stands = between (closed_not_open (over (tree_at ks 0) s.marks)) ((marks_stay_legal gs ks C).ends x (run_legal r L)) refl;
-          before = λ ps F. one_ended ms s.closed word (length v) _ L same e (accepted ps) (ended (length ks) [] ps) (left_open [] ps) F;
+          before = λ ps F. one_ended ms s.closed word (length v) _ L same e (accepted ps) (closed_instants (length ks) [] ps) (left_open [] ps) F;
         }
 
     by_react : (word : ℕ) {ms : List Mark} {ws : List ℕ} → Stands s v ms ws → begin_refusal gs s word ≡ None
@@ -167,17 +167,17 @@ module _ (gs : List SignalKind) (ks : List Kind) (C : Checked gs ks) (few : leng
           marks = (react_state gs ks s word).marks;
           words = [];
           stands = between (after_not_open (over (tree_at ks 0) x.0)) ((marks_stay_legal gs ks C).ends x (run_legal (model_runs s.marks word L') L')) refl;
-          before = λ ps F. one_ended s.marks s.closed word (length (steps_from ks (begin_state s word))) (instant gs ks s.marks word) L' refl refl (accepted ps) (ended (length ks) [] ps) (left_open [] ps) F;
+          before = λ ps F. one_ended s.marks s.closed word (length (steps_from ks (begin_state s word))) (instant gs ks s.marks word) L' refl refl (accepted ps) (closed_instants (length ks) [] ps) (left_open [] ps) F;
         }
     by_react word (inside o L r e) h = absurd (never _ o (begun_resting s.phase gs s.closed word h))
 
     -- a refused call leads nowhere else
-    unless_refused : (t : State) (p : Past) (o : Option Refusal) {ms : List Mark} {ws : List ℕ} → Stands s v ms ws → (o ≡ None → Leads s v t p ms ws)
+    unless_refused : (t : State) (p : Transition) (o : Option Refusal) {ms : List Mark} {ws : List ℕ} → Stands s v ms ws → (o ≡ None → Leads s v t p ms ws)
         → Leads s v (after o s t) (if_accepted o p) ms ws
     unless_refused t p None S f = f refl
     unless_refused t p (Some r) {ms = ms} {ws = ws} S f = record { stepped_then = v; marks = ms; words = ws; stands = S; before = λ ps F. F }
 
-    pub by_call : (c : Asked) {ms : List Mark} {ws : List ℕ} → Stands s v ms ws → past_of gs ks s c ≢ takes_over → Leads s v (after_call gs ks s c) (past_of gs ks s c) ms ws
+    pub by_call : (c : Asked) {ms : List Mark} {ws : List ℕ} → Stands s v ms ws → transition_of gs ks s c ≢ takes_over → Leads s v (after_call gs ks s c) (transition_of gs ks s c) ms ws
     by_call (begin word) S u = unless_refused _ _ (begin_refusal gs s word) S (by_begin word S)
     by_call (step k) S u = unless_refused _ _ (step_refusal ks s k) S (by_step k S)
     by_call close S u = unless_refused _ _ (close_refusal ks s) S (by_close S)

@@ -4,7 +4,7 @@ use Rattle.routine.specs.declared.kinds.Kind.{Kind}
 use Rattle.routine.specs.declared.kinds.SignalKind.{SignalKind}
 use Rattle.routine.specs.declared.checked.Routine.{Routine}
 use Rattle.routine.specs.Kinds.{marks}
-use Rattle.routine.specs.View.{kinds_of as kinds_read, signals_of as signals_read}
+use Rattle.routine.specs.View.{table_kinds, table_signals}
 use Rattle.signals.specs.declared.board.Board.{Ghosts}
 use Rattle.record.specs.State.{State}
 use Rattle.record.specs.Sound.{Sound}
@@ -14,7 +14,7 @@ use Rattle.count.specs.CountView.{kinds_of, signals_of, state_of}
 use Rattle.count.specs.Calls.{new_state}
 use Rattle.relay.specs.Asked.{Asked, take_over}
 use Rattle.relay.specs.Heard.{Ear, Grows, TellsAll}
-use Rattle.relay.specs.History.{takes_over, pasts, after_calls}
+use Rattle.relay.specs.History.{takes_over, trace, after_calls}
 use Rattle.relay.specs.Relays.{HandsOn, Relays, LeftAs, at_last}
 use Rattle.relay.specs.declared.relays.Relayed.{Relayed}
 use Rattle.relay.proofs.Resumed.{grows_as, from_sound, left_from_sound}
@@ -24,12 +24,12 @@ module _ (gs : List SignalKind) (ks : List Kind) (few : length ks ≤ 256) (some
     (handed : bytes ≡ record_of (length gs) (length ks) s) (ds : List Asked) where
   module _ {B : Type 0} {G : Ghosts B} (present : B → List Bool) (c d : Count B G) (e : signals_of c ≡ gs) (f : kinds_of c ≡ ks) (old new : Ear)
       (T : TellsAll present c d ([] ++ (take_over bytes ∷ ds)) old new) where
-    pub later_told : Grows old new (takes_over ∷ pasts gs ks s ds)
-    unfolding pasts
+    pub later_told : Grows old new (takes_over ∷ trace gs ks s ds)
+    unfolding trace
     later_told =
         let u = state_of present c in
         from_sound gs ks u [] bytes ds old new
-        (grows_as old new _ _ T.tells (ap₂ (λ (x : List SignalKind) (y : List Kind). pasts x y u (take_over bytes ∷ ds)) e f)) few some s S handed
+        (grows_as old new _ _ T.tells (ap₂ (λ (x : List SignalKind) (y : List Kind). trace x y u (take_over bytes ∷ ds)) e f)) few some s S handed
 
     pub left_at : state_of present d ≡ after_calls gs ks s ds
     left_at =
@@ -52,14 +52,14 @@ module _ (gs : List SignalKind) (ks : List Kind) (few : length ks ≤ 256) (some
     pub left_routine : (r : Routine) → r ≡ d.rows.routine → LeftAs gs ks (after_calls gs ks s ds).marks r
     left_routine r e =
         record {
-          signals = ap (λ (x : Routine). signals_read x.table) e ∙ left_signals;
-          kinds = ap (λ (x : Routine). kinds_read x.table) e ∙ left_kinds;
+          signals = ap (λ (x : Routine). table_signals x.table) e ∙ left_signals;
+          kinds = ap (λ (x : Routine). table_kinds x.table) e ∙ left_kinds;
           marks = ap (λ (x : Routine). marks (vec_items x.table.statements)) e ∙ ap (λ (x : State). x.marks) left_at;
         }
 
 -- a relay: a new count, at s, of the routine gs ks as xs ys; the calls cs, which led to t; and its hand-over
 module _ {A B : Type 0} (first : A → List Bool) (second : B → List Bool) (gs xs us : List SignalKind) (ks ys vs : List Kind) (cs ds : List Asked) (s t : State) (old new old' new' : Ear)
-    (e : xs ≡ gs) (f : ys ≡ ks) (i : s ≡ new_state ks) (e2 : us ≡ xs) (f2 : vs ≡ ys) (told : Grows old new (pasts xs ys s cs)) (leaves : t ≡ after_calls xs ys s cs)
+    (e : xs ≡ gs) (f : ys ≡ ks) (i : s ≡ new_state ks) (e2 : us ≡ xs) (f2 : vs ≡ ys) (told : Grows old new (trace xs ys s cs)) (leaves : t ≡ after_calls xs ys s cs)
     (r : Relayed A B) (q : Routine) where
   midway : t ≡ after_calls gs ks (new_state ks) cs
   midway = leaves ∙ ap₂ (λ (x : List SignalKind) (y : List Kind). after_calls x y s cs) e f ∙ ap (λ (u : State). after_calls gs ks u cs) i
@@ -68,7 +68,7 @@ module _ {A B : Type 0} (first : A → List Bool) (second : B → List Bool) (gs
       → Relays first second gs ks cs ds old new old' new' r × LeftAs gs ks (at_last gs ks cs ds).marks q
   relayed h l = (
     record {
-      before = grows_as old new _ _ told (ap₂ (λ (x : List SignalKind) (y : List Kind). pasts x y s cs) e f ∙ ap (λ (u : State). pasts gs ks u cs) i);
+      before = grows_as old new _ _ told (ap₂ (λ (x : List SignalKind) (y : List Kind). trace x y s cs) e f ∙ ap (λ (u : State). trace gs ks u cs) i);
       hands_on = subst (λ (u : State). HandsOn first second gs ks u ds old' new' r) midway
           (subst (λ (y : List Kind). HandsOn first second gs y t ds old' new' r) (f2 ∙ f) (subst (λ (x : List SignalKind). HandsOn first second x vs t ds old' new' r) (e2 ∙ e) h));
     },

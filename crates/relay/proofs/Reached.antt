@@ -12,7 +12,7 @@ use Rattle.routine.specs.declared.refusals.Refusal.TheVariants.{NoInstantLeft}
 use Rattle.routine.specs.Kinds.{kind_at, shape}
 use Rattle.routine.specs.Tree.{tree_at, tree, node}
 use Rattle.routine.specs.declared.kinds.Kind.TheVariants.{Nothing, Stop, Emit, Wait, Sequence, Parallel, Loop, When, Kill, Local}
-use Rattle.rules.specs.Rules.{Mark, Signals, Effect, quiet, raises, drops, apply, effect_of, Tree, over, ended}
+use Rattle.rules.specs.Rules.{Mark, Signals, Effect, no_effect, raises, drops, apply, effect_of, Tree, over, ended}
 use Rattle.rules.specs.Legal.{Legal}
 use Rattle.rules.specs.Model.{Config, settled, enough, status_of}
 use Rattle.rules.specs.Theorems.{Checked}
@@ -27,7 +27,7 @@ use Rattle.record.specs.Sound.{Sound, Within}
 use Rattle.record.specs.State.{State}
 use Rattle.record.specs.Taking.{taking_refusal}
 use Rattle.record.proofs.Taken.{taken_sound}
-use Rattle.count.specs.Calls.{after, not_input, first_stray, begin_by, begin_refusal, begin_state, step_refusal, step_state, close_refusal, close_state, react_state, new_state}
+use Rattle.count.specs.Calls.{after, not_input, first_not_input, begin_by, begin_refusal, begin_state, step_refusal, step_state, close_refusal, close_state, react_state, new_state}
 use Rattle.count.specs.Machine.{kind_effect}
 use Rattle.count.proofs.Presence.{within_empty, within_step, within_word, fits_at}
 use Rattle.count.proofs.Sound.{never, same_phase, after_not_open, over_after, over_ended}
@@ -41,8 +41,8 @@ room_and_inputs true o h = never_refused h
 room_and_inputs false None h = (refl, refl)
 room_and_inputs false (Some s) h = never_refused h
 
-may_begin : (gs : List SignalKind) (p : Phase) (n w : ℕ) → begin_by p gs n w ≡ None → (is_open p ≡ false) × ((n ≡ 4294967295 → ⊥) × (first_stray gs w ≡ None))
-may_begin gs Resting n w h = let r = room_and_inputs _ (first_stray gs w) h in (refl, (eqb-false n 4294967295 r.0, r.1))
+may_begin : (gs : List SignalKind) (p : Phase) (n w : ℕ) → begin_by p gs n w ≡ None → (is_open p ≡ false) × ((n ≡ 4294967295 → ⊥) × (first_not_input gs w ≡ None))
+may_begin gs Resting n w h = let r = room_and_inputs _ (first_not_input gs w) h in (refl, (eqb-false n 4294967295 r.0, r.1))
 may_begin gs Open n w h = never_refused h
 may_begin gs Over n w h = never_refused h
 
@@ -56,7 +56,7 @@ one_more_small true n f l = let k = f refl in omega arith
 one_more_small false n f l = l
 
 sized_after : (x : Effect) (e : Signals) → length e ≡ 64 → length (apply x e) ≡ 64
-sized_after quiet e h = h
+sized_after no_effect e h = h
 sized_after (raises s) e h = length-set e s true ∙ h
 sized_after (drops s) e h = length-set e s false ∙ h
 
@@ -94,8 +94,8 @@ module _ (gs : List SignalKind) (ks : List Kind) (C : Checked gs ks) (few : leng
       record {
         legal = (marks_stay_legal gs ks C).starts;
         finished = λ v. absurd (never true refl (sym v));
-        calm = λ o. refl;
-        still = λ o. refl;
+        no_steps = λ o. refl;
+        no_signals = λ o. refl;
         within = within_empty (length gs) empty refl;
         sized = length-empty;
         room = λ o. omega arith;
@@ -111,8 +111,8 @@ module _ (gs : List SignalKind) (ks : List Kind) (C : Checked gs ks) (few : leng
       record {
         legal = (marks_stay_legal gs ks C).begins s.marks (subst (λ b. Legal b ks s.marks) m.0 S.legal);
         finished = λ v. absurd (never true refl (sym v));
-        calm = λ o. absurd (never true refl o);
-        still = λ o. absurd (never true refl o);
+        no_steps = λ o. absurd (never true refl o);
+        no_signals = λ o. absurd (never true refl o);
         within = within_word gs word m.1.1;
         sized = length-word_set word;
         room = λ o. omega arith;
@@ -126,8 +126,8 @@ module _ (gs : List SignalKind) (ks : List Kind) (C : Checked gs ks) (few : leng
       record {
         legal = subst (λ b. Legal b ks (step_state ks s k).marks) (sym r.0) ((marks_stay_legal gs ks C).steps (s.marks, s.present) k (subst (λ b. Legal b ks s.marks) r.0 S.legal) r.1);
         finished = λ v. absurd (open_not_over s.phase r.0 v);
-        calm = λ o. absurd (never _ r.0 o);
-        still = λ o. absurd (never _ r.0 o);
+        no_steps = λ o. absurd (never _ r.0 o);
+        no_signals = λ o. absurd (never _ r.0 o);
         within = subst (λ (x : Effect). Within (length gs) (apply x s.present)) (effect_at ks k C.some)
             (within_step (length gs) (length ks) k (kind_at ks k) s.present (fits_at (length gs) ks k C.formed) S.within);
         sized = sized_after (effect_of (tree_at ks k)) s.present S.sized;
@@ -145,8 +145,8 @@ module _ (gs : List SignalKind) (ks : List Kind) (C : Checked gs ks) (few : leng
         legal = subst (λ c. Legal c ks (ended (tree_at ks 0) ms e)) (sym (after_not_open b)) ((marks_stay_legal gs ks C).ends (ms, e) L);
         finished = λ v. let o : over (tree_at ks 0) ms ≡ true = over_after b v in
             ap (over (tree_at ks 0)) (over_ended (tree_at ks 0) ms e (to_legal ks gs (table gs ks C) ms (rows true ks ms L)) o) ∙ o;
-        calm = λ o. refl;
-        still = λ o. refl;
+        no_steps = λ o. refl;
+        no_signals = λ o. refl;
         within = within_empty (length gs) empty refl;
         sized = length-empty;
         room = λ o. absurd (never _ o (after_not_open b));

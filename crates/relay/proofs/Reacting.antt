@@ -13,7 +13,7 @@ use Rattle.count.specs.Calls.{after, begin_refusal, begin_state, react_closing, 
 use Rattle.count.specs.Traces.{Trace, Extends}
 use Rattle.relay.specs.Asked.{react}
 use Rattle.relay.specs.Heard.{Ear, Grows}
-use Rattle.relay.specs.History.{Past, reacts, if_accepted, past_of}
+use Rattle.relay.specs.History.{Transition, reacts, if_accepted, transition_of}
 
 one_more : (n : ℕ) (o : Option ℕ) (f : ℕ → List ℕ) → ((i : ℕ) → length (f i) ≤ n) → length (first_then o f) ≤ suc n
 one_more n None f h = omega arith
@@ -35,16 +35,16 @@ all_heard ks few s old new e h =
 
 module _ (gs : List SignalKind) (ks : List Kind) (s : State) (word : ℕ) where
   pub accepted_past : (closing : Closing) (ms : List Mark) (v : List ℕ) → begin_refusal gs s word ≡ None → closing ≡ react_closing gs ks s word
-      → ms ≡ (react_state gs ks s word).marks → v ≡ steps_from ks (begin_state s word) → reacts word closing ms v ≡ past_of gs ks s (react word)
+      → ms ≡ (react_state gs ks s word).marks → v ≡ steps_from ks (begin_state s word) → reacts word closing ms v ≡ transition_of gs ks s (react word)
   accepted_past closing ms v none e f g =
       ap₂ (λ (c : Closing) (xs : List Mark). reacts word c xs v) e f ∙ ap (reacts word (react_closing gs ks s word) (react_state gs ks s word).marks) g
       ∙ ap (λ (o : Option Refusal). if_accepted o (reacts word (react_closing gs ks s word) (react_state gs ks s word).marks (steps_from ks (begin_state s word)))) (sym none)
 
   pub react_told : (closing : Closing) (ms : List Mark) (v : List ℕ) (t : State) (old new : Ear) → Ok closing ≡ answer (begin_refusal gs s word) (react_closing gs ks s word)
       → t ≡ after (begin_refusal gs s word) s (react_state gs ks s word) → ms ≡ t.marks → v ≡ steps_from ks (begin_state s word)
-      → Grows old new (reacts word closing ms v ∷ []) → Grows old new (past_of gs ks s (react word) ∷ [])
+      → Grows old new (reacts word closing ms v ∷ []) → Grows old new (transition_of gs ks s (react word) ∷ [])
   react_told closing ms v t old new says leaves marks steps h =
       let none = not_refused (begin_refusal gs s word) closing (react_closing gs ks s word) says in
       let close = answered (begin_refusal gs s word) closing (react_closing gs ks s word) says in
       let state : t ≡ react_state gs ks s word = leaves ∙ ap (λ (o : Option Refusal). after o s (react_state gs ks s word)) none in
-      subst (λ (p : Past). Grows old new (p ∷ [])) (accepted_past closing ms v none close (marks ∙ ap (λ (u : State). u.marks) state) steps) h
+      subst (λ (p : Transition). Grows old new (p ∷ [])) (accepted_past closing ms v none close (marks ∙ ap (λ (u : State). u.marks) state) steps) h

@@ -14,46 +14,46 @@ use Rattle.count.specs.declared.counts.Count.{Count}
 use Rattle.count.specs.Calls.{after, new_state}
 use Rattle.count.specs.CountView.{kinds_of, signals_of, state_of}
 use Rattle.relay.specs.Asked.{Asked, take_over}
-use Rattle.relay.specs.History.{Past, takes_over, if_accepted, past_of, after_call, pasts, after_calls}
+use Rattle.relay.specs.History.{Transition, takes_over, if_accepted, transition_of, after_call, trace, after_calls}
 use Rattle.relay.specs.Heard.{Ear, Grows, TellsAll, GoesOn, StaysWhereRefused}
-use Rattle.relay.proofs.Histories.{pasts_append, after_append}
+use Rattle.relay.proofs.Histories.{trace_append, after_append}
 use Rattle.relay.proofs.Reached.{sound_start, sound_calls}
 
-pub grows_as : (a b : Ear) (x y : List Past) → Grows a b x → x ≡ y → Grows a b y
+pub grows_as : (a b : Ear) (x y : List Transition) → Grows a b x → x ≡ y → Grows a b y
 grows_as a b x y g e = subst (Grows a b) e g
 
-grows_more : (a b c : Ear) (x y : List Past) → Grows a b x → Grows b c y → Grows a c (x ++ y)
+grows_more : (a b c : Ear) (x y : List Transition) → Grows a b x → Grows b c y → Grows a c (x ++ y)
 grows_more a b c x y p q =
     record {
       kept = λ h. p.kept (q.kept h);
-      heard = λ h. q.heard h ∙ ap (λ (z : List Past). z ++ y) (p.heard (q.kept h)) ∙ append_assoc a.heard x y;
+      heard = λ h. q.heard h ∙ ap (λ (z : List Transition). z ++ y) (p.heard (q.kept h)) ∙ append_assoc a.heard x y;
     }
 
 module _ (gs : List SignalKind) (ks : List Kind) where
-  pasts_cons : (c : Asked) (cs : List Asked) (s : State) → pasts gs ks s (c ∷ cs) ≡ past_of gs ks s c ∷ pasts gs ks (after_call gs ks s c) cs
-  unfolding pasts
-  pasts_cons c cs s = refl
+  trace_cons : (c : Asked) (cs : List Asked) (s : State) → trace gs ks s (c ∷ cs) ≡ transition_of gs ks s c ∷ trace gs ks (after_call gs ks s c) cs
+  unfolding trace
+  trace_cons c cs s = refl
 
   module _ (t : State) (earlier : List Asked) (bytes : List ℕ) (later : List Asked) (old new : Ear)
-      (all : Grows old new (pasts gs ks t (earlier ++ (take_over bytes ∷ later)))) where
-    abbrev by : Option Refusal → List Past
-    by o = pasts gs ks t earlier ++ (if_accepted o takes_over ∷ pasts gs ks (after o (after_calls gs ks t earlier) (state_in (length ks) bytes)) later)
+      (all : Grows old new (trace gs ks t (earlier ++ (take_over bytes ∷ later)))) where
+    abbrev by : Option Refusal → List Transition
+    by o = trace gs ks t earlier ++ (if_accepted o takes_over ∷ trace gs ks (after o (after_calls gs ks t earlier) (state_in (length ks) bytes)) later)
 
     by_answer : (o : Option Refusal) → taking_refusal gs ks bytes ≡ o → Grows old new (by o)
     by_answer o h =
         grows_as old new _ _ all
-        (pasts_append gs ks earlier (take_over bytes ∷ later) t ∙ ap (λ ps. pasts gs ks t earlier ++ ps) (pasts_cons (take_over bytes) later (after_calls gs ks t earlier))
+        (trace_append gs ks earlier (take_over bytes ∷ later) t ∙ ap (λ ps. trace gs ks t earlier ++ ps) (trace_cons (take_over bytes) later (after_calls gs ks t earlier))
         ∙ ap by h)
 
     pub refuses_on : StaysWhereRefused gs ks t earlier bytes later old new
     refuses_on r h = by_answer (Some r) h
 
     pub from_sound : length ks ≤ 256 → length gs ≤ 64 → (s : State) → Sound gs ks s → bytes ≡ record_of (length gs) (length ks) s
-        → Grows old new (pasts gs ks t earlier ++ (takes_over ∷ pasts gs ks s later))
+        → Grows old new (trace gs ks t earlier ++ (takes_over ∷ trace gs ks s later))
     from_sound n m s S e =
         let back = restored gs ks s n m S in
         grows_as old new _ _ (by_answer None (ap (taking_refusal gs ks) e ∙ back.0))
-        (ap (λ (x : State). pasts gs ks t earlier ++ (takes_over ∷ pasts gs ks x later)) (ap (state_in (length ks)) e ∙ back.1))
+        (ap (λ (x : State). trace gs ks t earlier ++ (takes_over ∷ trace gs ks x later)) (ap (state_in (length ks)) e ∙ back.1))
 
     pub goes_on : Checked gs ks → length ks ≤ 256 → length gs ≤ 64 → GoesOn gs ks t earlier bytes later old new
     goes_on C n m cs u e = from_sound n m (after_calls gs ks (new_state ks) cs) (sound_calls gs ks C n cs (new_state ks) u (sound_start gs ks C n)) e
@@ -75,12 +75,12 @@ module _ {B : Type 0} {G : Ghosts B} (present : B → List Bool) where
       let ks = kinds_of a in
       let s = state_of present a in
       let e = p.routine in
-      let r : Grows y z (pasts gs ks (after_calls gs ks s cs) ds) =
-      grows_as y z _ _ q.tells (ap₂ (λ (xs : List SignalKind) (ys : List Kind). pasts xs ys (state_of present b) ds) e.signals e.kinds ∙ ap (λ (t : State). pasts gs ks t ds) p.leaves) in
+      let r : Grows y z (trace gs ks (after_calls gs ks s cs) ds) =
+      grows_as y z _ _ q.tells (ap₂ (λ (xs : List SignalKind) (ys : List Kind). trace xs ys (state_of present b) ds) e.signals e.kinds ∙ ap (λ (t : State). trace gs ks t ds) p.leaves) in
       let l : state_of present c ≡ after_calls gs ks (after_calls gs ks s cs) ds =
       q.leaves ∙ ap₂ (λ (xs : List SignalKind) (ys : List Kind). after_calls xs ys (state_of present b) ds) e.signals e.kinds ∙ ap (λ (t : State). after_calls gs ks t ds) p.leaves in
       record {
-        tells = grows_as x z _ _ (grows_more x y z _ _ p.tells r) (sym (pasts_append gs ks cs ds s));
+        tells = grows_as x z _ _ (grows_more x y z _ _ p.tells r) (sym (trace_append gs ks cs ds s));
         leaves = l ∙ sym (after_append gs ks cs ds s);
         routine = record { kinds = q.routine.kinds ∙ e.kinds; signals = q.routine.signals ∙ e.signals };
       }

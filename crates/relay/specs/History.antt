@@ -12,26 +12,26 @@ use Rattle.relay.specs.Asked.{Asked, begin, step, close, react, take_over}
 
 -- what a call came to. A close and a react have the closing and the marks that remain; a react has the statements that it stepped,
 -- in their order
-pub data Past : Type 0 where
-  begins : (word : ℕ) → Past
-  steps : (statement : ℕ) → Past
-  closes : Closing → List Mark → Past
-  reacts : (word : ℕ) → Closing → List Mark → List ℕ → Past
-  takes_over : Past
-  refuses : Refusal → Past
+pub data Transition : Type 0 where
+  begins : (word : ℕ) → Transition
+  steps : (statement : ℕ) → Transition
+  closes : Closing → List Mark → Transition
+  reacts : (word : ℕ) → Closing → List Mark → List ℕ → Transition
+  takes_over : Transition
+  refuses : Refusal → Transition
 
-abbrev pub if_accepted : Option Refusal → Past → Past
+abbrev pub if_accepted : Option Refusal → Transition → Transition
 if_accepted None p = p
 if_accepted (Some r) p = refuses r
 
 -- what a call in state s comes to
-abbrev pub past_of : List SignalKind → List Kind → State → Asked → Past
-past_of gs ks s (begin word) = if_accepted (begin_refusal gs s word) (begins word)
-past_of gs ks s (step k) = if_accepted (step_refusal ks s k) (steps k)
-past_of gs ks s close = if_accepted (close_refusal ks s) (closes (closing gs ks s) (close_state ks s).marks)
-past_of gs ks s (react word) =
+abbrev pub transition_of : List SignalKind → List Kind → State → Asked → Transition
+transition_of gs ks s (begin word) = if_accepted (begin_refusal gs s word) (begins word)
+transition_of gs ks s (step k) = if_accepted (step_refusal ks s k) (steps k)
+transition_of gs ks s close = if_accepted (close_refusal ks s) (closes (closing gs ks s) (close_state ks s).marks)
+transition_of gs ks s (react word) =
     if_accepted (begin_refusal gs s word) (reacts word (react_closing gs ks s word) (react_state gs ks s word).marks (steps_from ks (begin_state s word)))
-past_of gs ks s (take_over bytes) = if_accepted (taking_refusal gs ks bytes) takes_over
+transition_of gs ks s (take_over bytes) = if_accepted (taking_refusal gs ks bytes) takes_over
 
 -- and the state that it leaves
 abbrev pub after_call : List SignalKind → List Kind → State → Asked → State
@@ -42,9 +42,9 @@ after_call gs ks s (react word) = after (begin_refusal gs s word) s (react_state
 after_call gs ks s (take_over bytes) = after (taking_refusal gs ks bytes) s (state_in (length ks) bytes)
 
 -- all of a list
-unfoldable pub pasts : List SignalKind → List Kind → State → List Asked → List Past
-pasts gs ks s [] = []
-pasts gs ks s (c ∷ cs) = past_of gs ks s c ∷ pasts gs ks (after_call gs ks s c) cs
+unfoldable pub trace : List SignalKind → List Kind → State → List Asked → List Transition
+trace gs ks s [] = []
+trace gs ks s (c ∷ cs) = transition_of gs ks s c ∷ trace gs ks (after_call gs ks s c) cs
 
 unfoldable pub after_calls : List SignalKind → List Kind → State → List Asked → State
 after_calls gs ks s [] = s

@@ -4,13 +4,13 @@ use Rattle.std.proofs.Math.Decide.{ℕ_discrete}
 use Rattle.routine.specs.declared.kinds.Kind.{Kind}
 use Rattle.routine.specs.declared.kinds.SignalKind.{SignalKind}
 use Rattle.rules.specs.Rules.{Mark}
-use Rattle.rules.specs.Runs.{count}
+use Rattle.rules.specs.Runs.{occurrences}
 use Rattle.rules.specs.Model.{Outcome, each_below, model}
 use Rattle.count.specs.declared.answers.Closing.{Closing}
-use Rattle.relay.specs.History.{Past, begins, steps, closes, reacts, takes_over, refuses}
+use Rattle.relay.specs.History.{Transition, begins, steps, closes, reacts, takes_over, refuses}
 
 -- a take over was accepted
-abbrev pub taken : List Past → Bool
+abbrev pub taken : List Transition → Bool
 taken [] = false
 taken (begins w ∷ ps) = taken ps
 taken (steps k ∷ ps) = taken ps
@@ -20,7 +20,7 @@ taken (takes_over ∷ ps) = true
 taken (refuses r ∷ ps) = taken ps
 
 -- the accepted words
-abbrev pub accepted : List Past → List ℕ
+abbrev pub accepted : List Transition → List ℕ
 accepted [] = []
 accepted (begins w ∷ ps) = w ∷ accepted ps
 accepted (steps k ∷ ps) = accepted ps
@@ -31,31 +31,31 @@ accepted (refuses r ∷ ps) = accepted ps
 
 -- a closed instant: its number, how many steps were accepted in it, react's own included, and what it came to: outputs, status,
 -- how often each of the n statements was stepped, the steps that its closing answers, remaining marks
-pub record Ended : Type 0 where
+pub record ClosedInstant : Type 0 where
   pub instant : ℕ
   pub accepted_steps : ℕ
   pub outcome : Outcome
 
 -- by its closing, its marks and the statements v that were stepped in it
-abbrev pub ended_as : ℕ → Closing → List Mark → List ℕ → Ended
-ended_as n c ms v =
+abbrev pub closed_as : ℕ → Closing → List Mark → List ℕ → ClosedInstant
+closed_as n c ms v =
     record {
       instant = c.instant;
       accepted_steps = length v;
-      outcome = record { outputs = c.outputs; status = c.status; times = each_below (λ i. count ℕ_discrete i v) n; steps = c.steps; marks = ms };
+      outcome = record { outputs = c.outputs; status = c.status; times = each_below (λ i. occurrences ℕ_discrete i v) n; steps = c.steps; marks = ms };
     }
 
 -- the instant that p closes, if it closes one, where v was stepped before in an open instant
-abbrev pub ended_by : ℕ → List ℕ → Past → List Ended
-ended_by n v (begins w) = []
-ended_by n v (steps k) = []
-ended_by n v (closes c ms) = ended_as n c ms v ∷ []
-ended_by n v (reacts w c ms u) = ended_as n c ms u ∷ []
-ended_by n v takes_over = []
-ended_by n v (refuses r) = []
+abbrev pub closed_by : ℕ → List ℕ → Transition → List ClosedInstant
+closed_by n v (begins w) = []
+closed_by n v (steps k) = []
+closed_by n v (closes c ms) = closed_as n c ms v ∷ []
+closed_by n v (reacts w c ms u) = closed_as n c ms u ∷ []
+closed_by n v takes_over = []
+closed_by n v (refuses r) = []
 
 -- what was stepped in the open instant after p
-abbrev pub stepped_then : List ℕ → Past → List ℕ
+abbrev pub stepped_then : List ℕ → Transition → List ℕ
 stepped_then v (begins w) = []
 stepped_then v (steps k) = v ++ (k ∷ [])
 stepped_then v (closes c ms) = []
@@ -64,27 +64,27 @@ stepped_then v takes_over = []
 stepped_then v (refuses r) = v
 
 -- the closed instants
-abbrev pub ended : ℕ → List ℕ → List Past → List Ended
-ended n v [] = []
-ended n v (p ∷ ps) = ended_by n v p ++ ended n (stepped_then v p) ps
+abbrev pub closed_instants : ℕ → List ℕ → List Transition → List ClosedInstant
+closed_instants n v [] = []
+closed_instants n v (p ∷ ps) = closed_by n v p ++ closed_instants n (stepped_then v p) ps
 
 -- what was stepped in the instant that is left open, if one is
-abbrev pub left_open : List ℕ → List Past → List ℕ
+abbrev pub left_open : List ℕ → List Transition → List ℕ
 left_open v [] = v
 left_open v (p ∷ ps) = left_open (stepped_then v p) ps
 
 -- the k-th closed instant has what the plain model gives for the k-th accepted word, in whatever order its statements were
 -- stepped: outputs, status, how often each statement was stepped, steps, remaining marks; they are numbered 1, 2, 3 ..; and no
 -- instant has more than 4 accepted steps for each statement
-pub record AsModel (gs : List SignalKind) (ks : List Kind) (ps : List Past) : Type 0 where
-  pub instants : map (λ (e : Ended). e.outcome) (ended (length ks) [] ps) ≡ take (length (ended (length ks) [] ps)) (model gs ks (accepted ps))
-  pub numbers : (k : ℕ) (e : Ended) → slice_get (ended (length ks) [] ps) k ≡ Some e → e.instant ≡ k + 1
-  pub counted : (k : ℕ) (e : Ended) → slice_get (ended (length ks) [] ps) k ≡ Some e → e.outcome.steps ≡ e.accepted_steps
-  pub closed_steps : (k : ℕ) (e : Ended) → slice_get (ended (length ks) [] ps) k ≡ Some e → e.accepted_steps ≤ 4 * length ks
+pub record AsModel (gs : List SignalKind) (ks : List Kind) (ps : List Transition) : Type 0 where
+  pub instants : map (λ (e : ClosedInstant). e.outcome) (closed_instants (length ks) [] ps) ≡ take (length (closed_instants (length ks) [] ps)) (model gs ks (accepted ps))
+  pub numbers : (k : ℕ) (e : ClosedInstant) → slice_get (closed_instants (length ks) [] ps) k ≡ Some e → e.instant ≡ k + 1
+  pub counted : (k : ℕ) (e : ClosedInstant) → slice_get (closed_instants (length ks) [] ps) k ≡ Some e → e.outcome.steps ≡ e.accepted_steps
+  pub closed_steps : (k : ℕ) (e : ClosedInstant) → slice_get (closed_instants (length ks) [] ps) k ≡ Some e → e.accepted_steps ≤ 4 * length ks
   pub open_steps : length (left_open [] ps) ≤ 4 * length ks
 
 -- where the first words are equal, the instants of those words end alike
-abbrev pub SameInstants : ℕ → List Past → List Past → Type 0
+abbrev pub SameInstants : ℕ → List Transition → List Transition → Type 0
 SameInstants n ps qs =
     (k : ℕ) → take (k + 1) (accepted ps) ≡ take (k + 1) (accepted qs)
-    → (a b : Ended) → slice_get (ended n [] ps) k ≡ Some a → slice_get (ended n [] qs) k ≡ Some b → a ≡ b
+    → (a b : ClosedInstant) → slice_get (closed_instants n [] ps) k ≡ Some a → slice_get (closed_instants n [] qs) k ≡ Some b → a ≡ b

@@ -4,9 +4,9 @@ use Rattle.relay.specs.declared.events.Event.{Event}
 use Rattle.relay.specs.declared.events.Event.TheVariants.{Begun, Stepped, Closed, Reacted, TakenOver, Refused}
 use Rattle.relay.specs.declared.keepers.Keeper.{Keeper}
 use Rattle.relay.specs.Heard.{Ear}
-use Rattle.relay.specs.History.{Past, begins, steps, closes, reacts, takes_over, refuses}
+use Rattle.relay.specs.History.{Transition, begins, steps, closes, reacts, takes_over, refuses}
 
-abbrev pub tells : Event → Past
+abbrev pub tells : Event → Transition
 tells (Begun word) = begins word
 tells (Stepped k) = steps k
 tells (Closed c ms) = closes c (vec_items ms)

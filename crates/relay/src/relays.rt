@@ -1,8 +1,8 @@
 ghost use Rattle.std.specs.Prelude.{map, length};
-ghost use Rattle.routine.specs.View.{kinds_of, signals_of};
-ghost use Rattle.count.specs.CountView.{kinds_of as seen_kinds, signals_of as seen_signals, state_of};
+ghost use Rattle.routine.specs.View.{table_kinds, table_signals};
+ghost use Rattle.count.specs.CountView.{table_kinds as kinds_of, table_signals as signals_of, state_of};
 ghost use Rattle.relay.specs.Asked.{asked};
-ghost use Rattle.relay.specs.Heard.{ToldAsModel, ToldAlike};
+ghost use Rattle.relay.specs.Heard.{ObservedAsModel, ObservedAlike};
 ghost use Rattle.relay.specs.History.{after_calls};
 ghost use Rattle.relay.specs.Relays.{HandsOn, Relays, LeftAs, at_last};
 
@@ -39,8 +39,8 @@ fn hand_on<A: Board, B: Board, L: Listener>(
     later: &[Call<'_>],
     listener: &mut L,
 ) -> (Relayed<A, B>, Routine)
-    ensures tells { HandsOn A.present B.present (seen_signals count) (seen_kinds count) (state_of A.present count) (map asked later.now) (L.ear listener.old) (L.ear listener.new) result.0 }
-    ensures routine { LeftAs (seen_signals count) (seen_kinds count) (after_calls (seen_signals count) (seen_kinds count) (state_of A.present count) (map asked later.now)).marks result.1 }
+    ensures tells { HandsOn A.present B.present (signals_of count) (kinds_of count) (state_of A.present count) (map asked later.now) (L.ear listener.old) (L.ear listener.new) result.0 }
+    ensures routine { LeftAs (signals_of count) (kinds_of count) (after_calls (signals_of count) (kinds_of count) (state_of A.present count) (map asked later.now)).marks result.1 }
 {
     let mut handed = [0; 279];
     let released = count.hand_over(&mut handed);
@@ -67,9 +67,9 @@ pub fn relay<A: Board, B: Board, K: Listener, L: Listener>(
     one: &mut K,
     other: &mut L,
 ) -> (Relayed<A, B>, Routine)
-    ensures tells { Relays A.present B.present (signals_of routine.table) (kinds_of routine.table) (map asked plan.entry.before.now) (map asked plan.entry.later.now) (K.ear one.old) (K.ear one.new) (L.ear other.old) (L.ear other.new) result.0 }
-    ensures routine { LeftAs (signals_of routine.table) (kinds_of routine.table) (at_last (signals_of routine.table) (kinds_of routine.table) (map asked plan.entry.before.now) (map asked plan.entry.later.now)).marks result.1 }
-    ensures model { ToldAsModel (signals_of routine.table) (kinds_of routine.table) (K.ear one.old) (K.ear one.new) (L.ear other.old) (L.ear other.new) }
+    ensures tells { Relays A.present B.present (table_signals routine.table) (table_kinds routine.table) (map asked plan.entry.before.now) (map asked plan.entry.later.now) (K.ear one.old) (K.ear one.new) (L.ear other.old) (L.ear other.new) result.0 }
+    ensures routine { LeftAs (table_signals routine.table) (table_kinds routine.table) (at_last (table_signals routine.table) (table_kinds routine.table) (map asked plan.entry.before.now) (map asked plan.entry.later.now)).marks result.1 }
+    ensures model { ObservedAsModel (table_signals routine.table) (table_kinds routine.table) (K.ear one.old) (K.ear one.new) (L.ear other.old) (L.ear other.new) }
 {
     let mut count = Count::new(routine, plan.first);
     carry_out_all(&mut count, plan.before, one);
@@ -96,12 +96,12 @@ pub fn relay_twice<
     m: &mut M,
     n: &mut N,
 ) -> (Relayed<A, B>, Relayed<C, D>, Routine)
-    ensures one { Relays A.present B.present (signals_of routine.table) (kinds_of routine.table) (map asked plan.entry.before.now) (map asked plan.entry.later.now) (K.ear k.old) (K.ear k.new) (L.ear l.old) (L.ear l.new) result.0 }
-    ensures other { Relays C.present D.present (signals_of routine.table) (kinds_of routine.table) (map asked again.entry.before.now) (map asked again.entry.later.now) (M.ear m.old) (M.ear m.new) (N.ear n.old) (N.ear n.new) result.1 }
-    ensures law { ToldAlike (length (kinds_of routine.table)) (K.ear k.old) (K.ear k.new) (L.ear l.old) (L.ear l.new) (M.ear m.old) (M.ear m.new) (N.ear n.old) (N.ear n.new) }
-    ensures model { ToldAsModel (signals_of routine.table) (kinds_of routine.table) (K.ear k.old) (K.ear k.new) (L.ear l.old) (L.ear l.new) }
-    ensures other_model { ToldAsModel (signals_of routine.table) (kinds_of routine.table) (M.ear m.old) (M.ear m.new) (N.ear n.old) (N.ear n.new) }
-    ensures routine { LeftAs (signals_of routine.table) (kinds_of routine.table) (at_last (signals_of routine.table) (kinds_of routine.table) (map asked again.entry.before.now) (map asked again.entry.later.now)).marks result.2 }
+    ensures one { Relays A.present B.present (table_signals routine.table) (table_kinds routine.table) (map asked plan.entry.before.now) (map asked plan.entry.later.now) (K.ear k.old) (K.ear k.new) (L.ear l.old) (L.ear l.new) result.0 }
+    ensures other { Relays C.present D.present (table_signals routine.table) (table_kinds routine.table) (map asked again.entry.before.now) (map asked again.entry.later.now) (M.ear m.old) (M.ear m.new) (N.ear n.old) (N.ear n.new) result.1 }
+    ensures law { ObservedAlike (length (table_kinds routine.table)) (K.ear k.old) (K.ear k.new) (L.ear l.old) (L.ear l.new) (M.ear m.old) (M.ear m.new) (N.ear n.old) (N.ear n.new) }
+    ensures model { ObservedAsModel (table_signals routine.table) (table_kinds routine.table) (K.ear k.old) (K.ear k.new) (L.ear l.old) (L.ear l.new) }
+    ensures other_model { ObservedAsModel (table_signals routine.table) (table_kinds routine.table) (M.ear m.old) (M.ear m.new) (N.ear n.old) (N.ear n.new) }
+    ensures routine { LeftAs (table_signals routine.table) (table_kinds routine.table) (at_last (table_signals routine.table) (table_kinds routine.table) (map asked again.entry.before.now) (map asked again.entry.later.now)).marks result.2 }
 {
     let (relayed, routine) = relay(routine, plan, k, l);
     let (once_more, routine) = relay(routine, again, m, n);

@@ -4,13 +4,13 @@ use Rattle.routine.specs.declared.kinds.SignalKind.{SignalKind}
 use Rattle.routine.specs.declared.kinds.Kind.{Kind}
 use Rattle.routine.specs.declared.kinds.Statement.{Statement}
 use Rattle.routine.specs.declared.refusals.Refusal.{Refusal}
-use Rattle.routine.specs.declared.refusals.Refusal.TheVariants.{Form, SignalKind as BadSignalKind, Record, Memory}
+use Rattle.routine.specs.declared.refusals.Refusal.TheVariants.{TableForm, SignalKind as BadSignalKind, StatementRecord, Memory}
 use Rattle.routine.specs.Kinds.{kinds}
 use Rattle.routine.specs.Layout.{onto, signal_kind, spelled, fitting, headed, signal_count, statement_count, signal_bytes, record_bytes, signals_from, records_from, with_statements, with_signals, read_of}
 use Rattle.routine.specs.Meaning.{check_of}
 use Rattle.routine.specs.Refusals.{number_of, AnswersOrMemory}
 use Rattle.routine.specs.View.{judged, then_checked, load_of}
-use Rattle.routine.proofs.Checking.{chain, verdict_by, strays, misuse, unscope, endlessness}
+use Rattle.routine.proofs.Checking.{chain, verdict_by, misnamed, misuse, unscope, endlessness}
 
 abbrev pub HasNumber : Refusal → Type 0
 HasNumber e = is_some (number_of e) ≡ true
@@ -39,7 +39,7 @@ records_numbered g n (a ∷ []) i = tt
 records_numbered g n (a ∷ (b ∷ [])) i = tt
 records_numbered g n (a ∷ (b ∷ (c ∷ []))) i = tt
 records_numbered g n (a ∷ (b ∷ (c ∷ (d ∷ rest)))) i =
-    onto_numbered (Record i) (fitting g n i (spelled a b c d)) (records_from g n (i + 1) rest) refl (records_numbered g n rest (i + 1))
+    onto_numbered (StatementRecord i) (fitting g n i (spelled a b c d)) (records_from g n (i + 1) rest) refl (records_numbered g n rest (i + 1))
 
 statements_numbered : (gs : List SignalKind) (r : Result (List Statement) Refusal) → Numbered r → Numbered (with_statements gs r)
 statements_numbered gs (Ok ss) h = tt
@@ -50,7 +50,7 @@ all_numbered bytes (Ok gs) h =
     statements_numbered gs (records_from (signal_count bytes) (statement_count bytes) 0 (record_bytes bytes)) (records_numbered (signal_count bytes) (statement_count bytes) (record_bytes bytes) 0)
 all_numbered bytes (Err e) h = h
 
-headed_numbered : (b : Bool) (r : Result (List SignalKind × List Statement) Refusal) → Numbered r → Numbered (cond b r (Err Form))
+headed_numbered : (b : Bool) (r : Result (List SignalKind × List Statement) Refusal) → Numbered r → Numbered (cond b r (Err TableForm))
 headed_numbered true r h = h
 headed_numbered false r h = refl
 
@@ -68,8 +68,8 @@ chain_named None None None None = tt
 
 check_named : (gs : List SignalKind) (ks : List Kind) → Named (check_of gs ks)
 check_named gs ks =
-    subst Named (sym (verdict_by gs ks (strays gs ks) (misuse gs ks) (unscope gs ks) (endlessness gs ks) refl refl refl refl))
-    (chain_named (strays gs ks) (misuse gs ks) (unscope gs ks) (endlessness gs ks))
+    subst Named (sym (verdict_by gs ks (misnamed gs ks) (misuse gs ks) (unscope gs ks) (endlessness gs ks) refl refl refl refl))
+    (chain_named (misnamed gs ks) (misuse gs ks) (unscope gs ks) (endlessness gs ks))
 
 judged_numbered : (p : List SignalKind × List Statement) (o : Option Refusal) → Named o → Numbered (judged p o)
 judged_numbered p None h = tt

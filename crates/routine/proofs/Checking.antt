@@ -6,7 +6,7 @@ use Rattle.routine.specs.declared.refusals.Refusal.{Refusal}
 use Rattle.routine.specs.declared.refusals.Refusal.TheVariants.{Parts, SignalUse, Scope, EndlessLoop}
 use Rattle.routine.specs.Kinds.{kind_at}
 use Rattle.routine.specs.Search.{lowest}
-use Rattle.routine.specs.Meaning.{stray, misuses, unscoped, endless, refusing, check_of, passes}
+use Rattle.routine.specs.Meaning.{is_misnamed, misuses, unscoped, endless, refusing, check_of, passes}
 
 abbrev pub chain : Option ℕ → Option ℕ → Option ℕ → Option ℕ → Option Refusal
 chain a b c d = refusing a Parts (refusing b SignalUse (refusing c Scope (refusing d EndlessLoop None)))
@@ -16,8 +16,8 @@ module _ (gs : List SignalKind) (ks : List Kind) where
   verdict = check_of gs ks
 
   -- what each test found
-  abbrev pub strays : Option ℕ
-  strays = lowest (stray ks) (length ks)
+  abbrev pub misnamed : Option ℕ
+  misnamed = lowest (is_misnamed ks) (length ks)
 
   abbrev pub misuse : Option ℕ
   misuse = lowest (λ i. misuses gs (kind_at ks i)) (length ks)
@@ -28,7 +28,7 @@ module _ (gs : List SignalKind) (ks : List Kind) where
   abbrev pub endlessness : Option ℕ
   endlessness = lowest (λ i. endless ks (kind_at ks i)) (length ks)
 
-  pub verdict_by : (a b c d : Option ℕ) → a ≡ strays → b ≡ misuse → c ≡ unscope → d ≡ endlessness → verdict ≡ chain a b c d
+  pub verdict_by : (a b c d : Option ℕ) → a ≡ misnamed → b ≡ misuse → c ≡ unscope → d ≡ endlessness → verdict ≡ chain a b c d
   unfolding check_of
   verdict_by a b c d p q r s =
       ap (λ x. chain x misuse unscope endlessness) (sym p) ∙ ap (λ x. chain a x unscope endlessness) (sym q)

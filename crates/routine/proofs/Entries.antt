@@ -5,7 +5,7 @@ use Rattle.routine.specs.declared.kinds.SignalKind.{SignalKind}
 use Rattle.routine.specs.declared.kinds.Kind.{Kind}
 use Rattle.routine.specs.declared.kinds.Statement.{Statement}
 use Rattle.routine.specs.declared.refusals.Refusal.{Refusal}
-use Rattle.routine.specs.declared.refusals.Refusal.TheVariants.{Record}
+use Rattle.routine.specs.declared.refusals.Refusal.TheVariants.{StatementRecord}
 use Rattle.routine.specs.Kinds.{fresh, kinds, kind_at}
 use Rattle.routine.specs.Layout.{onto, signal_kind, spelled, fits, fitting, signals_from, records_from}
 
@@ -26,7 +26,7 @@ more ms ns x o r d all e says n step h =
 
 module _ (g n i : ℕ) where
   records_step : (bytes : List ℕ) → 4 ≤ length bytes
-      → records_from g n i bytes ≡ onto (Record i) (fitting g n i (spelled (get_or bytes 0 0) (get_or bytes 1 0) (get_or bytes 2 0) (get_or bytes 3 0))) (records_from g n (i + 1) (drop 4 bytes))
+      → records_from g n i bytes ≡ onto (StatementRecord i) (fitting g n i (spelled (get_or bytes 0 0) (get_or bytes 1 0) (get_or bytes 2 0) (get_or bytes 3 0))) (records_from g n (i + 1) (drop 4 bytes))
   records_step [] l = absurd (omega arith)
   records_step (a ∷ []) l = absurd (omega arith)
   records_step (a ∷ (b ∷ [])) l = absurd (omega arith)

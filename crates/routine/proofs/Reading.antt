@@ -4,7 +4,7 @@ use Rattle.std.proofs.lemmas.List.{take_rest, length-take, length-drop, length-m
 use Rattle.routine.specs.declared.kinds.SignalKind.{SignalKind}
 use Rattle.routine.specs.declared.kinds.Statement.{Statement}
 use Rattle.routine.specs.declared.refusals.Refusal.{Refusal}
-use Rattle.routine.specs.declared.refusals.Refusal.TheVariants.{Form}
+use Rattle.routine.specs.declared.refusals.Refusal.TheVariants.{TableForm}
 use Rattle.routine.specs.Kinds.{kinds, kind_at}
 use Rattle.routine.specs.Layout.{headed, signal_count, statement_count, signal_bytes, record_bytes, signals_from, records_from, with_statements, with_signals, read_of, fits, Formed}
 use Rattle.routine.proofs.Entries.{signals_length, records_length, records_fit}
@@ -22,7 +22,7 @@ module _
   -- what is read, once the contents are right
   opened : (r : Result (List SignalKind) Refusal) → signals_from 0 xs ≡ r → read_of bytes ≡ with_signals bytes r
   opened r s =
-      ap (λ b. cond b (with_signals bytes (signals_from 0 (signal_bytes bytes))) (Err Form)) h
+      ap (λ b. cond b (with_signals bytes (signals_from 0 (signal_bytes bytes))) (Err TableForm)) h
       ∙ ap (with_signals bytes) (ap (signals_from 0) (sym first_part) ∙ s)
 
   stated : (r : Result (List Statement) Refusal) → records_from g n 0 ys ≡ r

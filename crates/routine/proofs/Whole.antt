@@ -3,7 +3,7 @@ use Rattle.std.proofs.Common.{◌≡◌, ℕ, ◌<◌, ◌≤◌, cond, ltb, Lis
 use Rattle.routine.specs.declared.kinds.Kind.{Kind}
 use Rattle.routine.specs.declared.checked.Routine.{Routine}
 use Rattle.routine.specs.Tree.{tree, tree_at, occurs, size}
-use Rattle.routine.specs.View.{signals_of, kinds_of, tree_of}
+use Rattle.routine.specs.View.{table_signals, table_kinds, tree_of}
 use Rattle.routine.proofs.Lists.{kinds_length}
 use Rattle.routine.proofs.Trees.{Rising, rising, fuel}
 use Rattle.routine.proofs.Once.{Once, occurs_once, whole_size}
@@ -11,13 +11,13 @@ use Rattle.routine.proofs.Passed.{once}
 
 module _ (r : Routine) where
   abbrev ks : List Kind
-  ks = kinds_of r.table
+  ks = table_kinds r.table
 
   pub rises : Rising ks
   rises = rising (vec_len r.table.signals) ks r.table.formed
 
   pub named_once : Once ks
-  named_once = once (signals_of r.table) ks r.passed
+  named_once = once (table_signals r.table) ks r.passed
 
   pub some_statement : 0 < length ks
   some_statement =

@@ -8,7 +8,7 @@ use Rattle.routine.specs.declared.kinds.Statement.{Statement}
 use Rattle.routine.specs.declared.kinds.UnknownSignal.{UnknownSignal}
 use Rattle.routine.specs.declared.kinds.UnknownStatement.{UnknownStatement}
 use Rattle.routine.specs.declared.refusals.Refusal.{Refusal}
-use Rattle.routine.specs.declared.refusals.Refusal.TheVariants.{Form, SignalKind as BadSignalKind, Record}
+use Rattle.routine.specs.declared.refusals.Refusal.TheVariants.{TableForm, SignalKind as BadSignalKind, StatementRecord}
 use Rattle.routine.specs.Kinds.{fresh, kind_at}
 
 -- the number of two bytes at place p, the lower byte first
@@ -100,7 +100,7 @@ records_from g n i (k ∷ []) = Ok []
 records_from g n i (k ∷ (s ∷ [])) = Ok []
 records_from g n i (k ∷ (s ∷ (a ∷ []))) = Ok []
 records_from g n i (k ∷ (s ∷ (a ∷ (b ∷ rest)))) =
-    onto (Record i) (fitting g n i (spelled k s a b)) (records_from g n (i + 1) rest)
+    onto (StatementRecord i) (fitting g n i (spelled k s a b)) (records_from g n (i + 1) rest)
 
 abbrev pub signal_bytes : List ℕ → List ℕ
 signal_bytes bytes = take (signal_count bytes) (drop 8 bytes)
@@ -118,7 +118,7 @@ with_signals bytes (Err e) = Err e
 
 -- the signals and the statements that the bytes say, or why they are no table
 abbrev pub read_of : List ℕ → Result (List SignalKind × List Statement) Refusal
-read_of bytes = cond (headed bytes) (with_signals bytes (signals_from 0 (signal_bytes bytes))) (Err Form)
+read_of bytes = cond (headed bytes) (with_signals bytes (signals_from 0 (signal_bytes bytes))) (Err TableForm)
 
 -- each statement's fields fit: what the form asks of records that are read
 abbrev pub Formed : ℕ → List Kind → Type 0

@@ -22,8 +22,8 @@ named ks zero a = 0
 named ks (suc n) a = names (shape_at ks n) a + named ks n a
 
 -- other than 0, and not named as a part exactly once
-abbrev pub stray : List Kind → ℕ → Bool
-stray ks i = not (i == 0) && not (named ks (length ks) i == 1)
+abbrev pub is_misnamed : List Kind → ℕ → Bool
+is_misnamed ks i = not (i == 0) && not (named ks (length ks) i == 1)
 
 abbrev pub is_input : SignalKind → Bool
 is_input Input = true
@@ -90,20 +90,20 @@ abbrev pub in_scope : List Kind → ℕ → ℕ → Bool
 in_scope ks s i = any (encloses ks s i) (length ks)
 
 -- a signal that is local, used outside its scope
-abbrev pub astray : List SignalKind → List Kind → ℕ → ℕ → Bool
-astray gs ks i s = is_local (signal_at gs s) && not (in_scope ks s i)
+abbrev pub is_out_of_scope : List SignalKind → List Kind → ℕ → ℕ → Bool
+is_out_of_scope gs ks i s = is_local (signal_at gs s) && not (in_scope ks s i)
 
 -- a use of a local signal outside its scope, or a local statement with the signal of a lower one
 abbrev pub unscoped : List SignalKind → List Kind → ℕ → Kind → Bool
 unscoped gs ks i Nothing = false
 unscoped gs ks i Stop = false
-unscoped gs ks i (Emit s) = astray gs ks i s
-unscoped gs ks i (Wait s) = astray gs ks i s
+unscoped gs ks i (Emit s) = is_out_of_scope gs ks i s
+unscoped gs ks i (Wait s) = is_out_of_scope gs ks i s
 unscoped gs ks i (Sequence a b) = false
 unscoped gs ks i (Parallel a b) = false
 unscoped gs ks i (Loop a) = false
-unscoped gs ks i (When s a b) = astray gs ks i s
-unscoped gs ks i (Kill s a) = astray gs ks i s
+unscoped gs ks i (When s a b) = is_out_of_scope gs ks i s
+unscoped gs ks i (Kill s a) = is_out_of_scope gs ks i s
 unscoped gs ks i (Local s a) = any (λ j. declares (kind_at ks j) s) i
 
 -- a loop whose first can end at once
@@ -127,7 +127,7 @@ refusing (Some i) why later = Some (why i)
 -- the first refusal that applies: each test over the whole table before the next
 unfoldable pub check_of : List SignalKind → List Kind → Option Refusal
 check_of gs ks =
-    refusing (lowest (stray ks) (length ks)) Parts
+    refusing (lowest (is_misnamed ks) (length ks)) Parts
     (refusing (lowest (λ i. misuses gs (kind_at ks i)) (length ks)) SignalUse
     (refusing (lowest (λ i. unscoped gs ks i (kind_at ks i)) (length ks)) Scope
     (refusing (lowest (λ i. endless ks (kind_at ks i)) (length ks)) EndlessLoop None)))

@@ -1,14 +1,14 @@
 -- each refusal: its number, its layer, its place
 use Rattle.std.specs.Prelude.{◌≡◌, ℕ, List, ◌++◌, Some, None, Ok, Err, codes, decimal, Option, Result, MatchResult, IfOk, IsOkAnd}
 use Rattle.routine.specs.declared.refusals.Refusal.{Refusal}
-use Rattle.routine.specs.declared.refusals.Refusal.TheVariants.{Form, SignalKind, Record, Parts, SignalUse, Scope, EndlessLoop}
+use Rattle.routine.specs.declared.refusals.Refusal.TheVariants.{TableForm, SignalKind, StatementRecord, Parts, SignalUse, Scope, EndlessLoop}
 use Rattle.routine.specs.declared.refusals.Refusal.TheVariants.{AlreadyOpen, AlreadyOver, NoInstantLeft, NotInput, NotOpenToStep, NoSuchStatement, NotReady, NotOpenToClose, StillReady}
 use Rattle.routine.specs.declared.refusals.Refusal.TheVariants.{RecordForm, RecordHead, RecordMarks, Memory}
 
 abbrev pub number_of : Refusal → Option ℕ
-number_of Form = Some 11
+number_of TableForm = Some 11
 number_of (SignalKind s) = Some 12
-number_of (Record i) = Some 13
+number_of (StatementRecord i) = Some 13
 number_of (Parts i) = Some 21
 number_of (SignalUse i) = Some 22
 number_of (Scope i) = Some 23
@@ -28,9 +28,9 @@ number_of (RecordMarks i) = Some 63
 number_of Memory = None
 
 abbrev pub layer_of : Refusal → Option ℕ
-layer_of Form = Some 1
+layer_of TableForm = Some 1
 layer_of (SignalKind s) = Some 1
-layer_of (Record i) = Some 1
+layer_of (StatementRecord i) = Some 1
 layer_of (Parts i) = Some 2
 layer_of (SignalUse i) = Some 2
 layer_of (Scope i) = Some 2
@@ -51,9 +51,9 @@ layer_of Memory = None
 
 -- 0 where the refusal names no place
 abbrev pub place_of : Refusal → ℕ
-place_of Form = 0
+place_of TableForm = 0
 place_of (SignalKind s) = s
-place_of (Record i) = i
+place_of (StatementRecord i) = i
 place_of (Parts i) = i
 place_of (SignalUse i) = i
 place_of (Scope i) = i

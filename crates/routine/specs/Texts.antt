@@ -3,7 +3,7 @@ use Rattle.std.specs.Prelude.{ℕ, List, [], ◌∷◌, ◌++◌, Some, None, co
 use Rattle.routine.specs.declared.kinds.Kind.{Kind}
 use Rattle.routine.specs.declared.kinds.Kind.TheVariants.{Nothing, Stop, Emit, Wait, Sequence, Parallel, Loop, When, Kill, Local}
 use Rattle.routine.specs.declared.refusals.Refusal.{Refusal}
-use Rattle.routine.specs.declared.refusals.Refusal.TheVariants.{Form, SignalKind, Record, Parts, SignalUse, Scope, EndlessLoop}
+use Rattle.routine.specs.declared.refusals.Refusal.TheVariants.{TableForm, SignalKind, StatementRecord, Parts, SignalUse, Scope, EndlessLoop}
 use Rattle.routine.specs.declared.refusals.Refusal.TheVariants.{AlreadyOpen, AlreadyOver, NoInstantLeft, NotInput, NotOpenToStep, NoSuchStatement, NotReady, NotOpenToClose, StillReady}
 use Rattle.routine.specs.declared.refusals.Refusal.TheVariants.{RecordForm, RecordHead, RecordMarks, Memory}
 use Rattle.routine.specs.Refusals.{place_of}
@@ -26,9 +26,9 @@ kind_text (Local s a) = codes "local " ++ decimal s
 
 -- what a refusal's place numbers, where it has one
 abbrev pub subject_of : Refusal → Option (List ℕ)
-subject_of Form = None
+subject_of TableForm = None
 subject_of (SignalKind s) = Some (codes "signal")
-subject_of (Record i) = Some (codes "statement")
+subject_of (StatementRecord i) = Some (codes "statement")
 subject_of (Parts i) = Some (codes "statement")
 subject_of (SignalUse i) = Some (codes "statement")
 subject_of (Scope i) = Some (codes "statement")
@@ -49,9 +49,9 @@ subject_of Memory = None
 
 -- what is wrong there
 abbrev pub wording_of : Refusal → List ℕ
-wording_of Form = codes "the contents or the length are not those of a table"
+wording_of TableForm = codes "the contents or the length are not those of a table"
 wording_of (SignalKind s) = codes "its kind is above 2"
-wording_of (Record i) = codes "an unknown kind, an unused field that is not 0, a signal that is not there, or a part that is not above it"
+wording_of (StatementRecord i) = codes "an unknown kind, an unused field that is not 0, a signal that is not there, or a part that is not above it"
 wording_of (Parts i) = codes "it is not named as a part exactly once"
 wording_of (SignalUse i) = codes "an emit of an input, or a local statement whose signal is not local"
 wording_of (Scope i) = codes "a local signal outside its local statement, or a local statement with the signal of a lower one"

@@ -11,11 +11,11 @@ use Rattle.routine.specs.Tree.{Tree, tree_at}
 use Rattle.routine.specs.Layout.{read_of}
 use Rattle.routine.specs.Meaning.{check_of}
 
-abbrev pub signals_of : Table → List SignalKind
-signals_of t = vec_items t.signals
+abbrev pub table_signals : Table → List SignalKind
+table_signals t = vec_items t.signals
 
-abbrev pub kinds_of : Table → List Kind
-kinds_of t = kinds (vec_items t.statements)
+abbrev pub table_kinds : Table → List Kind
+table_kinds t = kinds (vec_items t.statements)
 
 -- how many statements it has
 abbrev pub count_of : Table → ℕ
@@ -23,16 +23,16 @@ count_of t = vec_len t.statements
 
 -- the tree of a routine
 abbrev pub tree_of : Routine → Tree
-tree_of r = tree_at (kinds_of r.table) 0
+tree_of r = tree_at (table_kinds r.table) 0
 
 -- what a table says
 abbrev pub content : Table → List SignalKind × List Statement
-content t = (signals_of t, vec_items t.statements)
+content t = (table_signals t, vec_items t.statements)
 
 -- what checking answers: the same table as a routine, or the definition's refusal
 abbrev pub Checks : Table → Result Routine Refusal → Type 0
-Checks t (Ok r) = (check_of (signals_of t) (kinds_of t) ≡ None) × (r.table ≡ t)
-Checks t (Err e) = check_of (signals_of t) (kinds_of t) ≡ Some e
+Checks t (Ok r) = (check_of (table_signals t) (table_kinds t) ≡ None) × (r.table ≡ t)
+Checks t (Err e) = check_of (table_signals t) (table_kinds t) ≡ Some e
 
 -- the parts of statement i lie above it and below n
 abbrev pub PartsRise : ℕ → ℕ → Shape → Type 0

@@ -2,7 +2,7 @@ ghost use Rattle.std.specs.Prelude.{◌≡◌, ℕ, ◌+◌, ◌*◌, ◌<◌, �
 ghost use Rattle.routine.specs.Search.{any, FindsLowest};
 ghost use Rattle.routine.specs.Kinds.{shape, kind_at, shape_at};
 ghost use Rattle.routine.specs.Tree.{node, tree_at, contains, inside, can_end};
-ghost use Rattle.routine.specs.Meaning.{names, named, stray, signal_at, misuses, declares, encloses, in_scope, unscoped, endless, check_of};
+ghost use Rattle.routine.specs.Meaning.{names, named, is_misnamed, signal_at, misuses, declares, encloses, in_scope, unscoped, endless, check_of};
 ghost use Rattle.routine.specs.View.{Checks};
 ghost use Rattle.routine.specs.Lent.{lent_signals, lent_kinds};
 
@@ -152,8 +152,8 @@ impl Rows<'_> {
     }
 
     // Is it another statement than the first, and not named as a part exactly once?
-    fn is_stray(&self, i: usize) -> bool
-        ensures { result ≡ stray (lent_kinds self.now) i }
+    fn is_misnamed(&self, i: usize) -> bool
+        ensures { result ≡ is_misnamed (lent_kinds self.now) i }
     {
         i != 0 && self.named(i) != 1
     }
@@ -169,7 +169,7 @@ impl Rows<'_> {
     pub(crate) fn fault(&self) -> Option<Refusal>
         ensures { result ≡ check_of (lent_signals self.now) (lent_kinds self.now) }
     {
-        if let Some(statement) = self.offender(|i| self.is_stray(i)) {
+        if let Some(statement) = self.offender(|i| self.is_misnamed(i)) {
             return Some(Refusal::Parts { statement });
         }
         if let Some(statement) = self.offender(|i| self.misuses(i)) {

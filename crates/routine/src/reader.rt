@@ -26,7 +26,7 @@ impl Header {
         ensures { Headed bytes.now result }
     {
         let [a, b, c, d, e, f, g, h, ..] = bytes else {
-            return Err(Refusal::Form);
+            return Err(Refusal::TableForm);
         };
         let signals = word(*c, *d);
         let statements = word(*g, *h);
@@ -40,7 +40,7 @@ impl Header {
             signals,
             statements,
         };
-        right.then_some(header).ok_or(Refusal::Form)
+        right.then_some(header).ok_or(Refusal::TableForm)
     }
 
     // Can it be a part of statement i?
@@ -103,11 +103,11 @@ fn read_statements(bytes: &[u8], header: Header) -> Result<ArrayVec<Statement, 2
     // A rule of the project: a record is taken apart by a pattern that hands on the rest.
     while let [kind, signal, first, second, rest @ ..] = left {
         let statement = made.len();
-        let kind = Kind::try_from([*kind, *signal, *first, *second]).map_err(|_| Refusal::Record {
-            statement,
-        })?;
+        let kind = Kind::try_from([*kind, *signal, *first, *second]).map_err(
+            |_| Refusal::StatementRecord { statement },
+        )?;
         if !header.fits(statement, kind) {
-            return Err(Refusal::Record { statement });
+            return Err(Refusal::StatementRecord { statement });
         }
         made.push(Statement::new(kind));
         left = rest;

@@ -12,7 +12,7 @@ impl Refusal {
     {
         match self {
             Refusal::SignalKind { .. } | Refusal::NotInput { .. } => Some("signal"),
-            Refusal::Record { .. }
+            Refusal::StatementRecord { .. }
             | Refusal::Parts { .. }
             | Refusal::SignalUse { .. }
             | Refusal::Scope { .. }
@@ -22,7 +22,7 @@ impl Refusal {
             | Refusal::StillReady { .. }
             | Refusal::RecordMarks { .. } => Some("statement"),
             Refusal::RecordHead { .. } => Some("offset"),
-            Refusal::Form
+            Refusal::TableForm
             | Refusal::AlreadyOpen
             | Refusal::AlreadyOver
             | Refusal::NoInstantLeft
@@ -38,9 +38,9 @@ impl Refusal {
         ensures { result.now ≡ wording_of self.now }
     {
         match self {
-            Refusal::Form => "the contents or the length are not those of a table",
+            Refusal::TableForm => "the contents or the length are not those of a table",
             Refusal::SignalKind { .. } => "its kind is above 2",
-            Refusal::Record { .. } => {
+            Refusal::StatementRecord { .. } => {
                 "an unknown kind, an unused field that is not 0, a signal that is not there, or a part that is not above it"
             }
             Refusal::Parts { .. } => "it is not named as a part exactly once",

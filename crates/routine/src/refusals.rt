@@ -10,9 +10,9 @@ use std::fmt;
 #[derive(Clone, Copy, Debug, PartialEq, Eq)]
 pub enum Refusal {
     // layer 1: the form of a table
-    Form,
+    TableForm,
     SignalKind { signal: usize },
-    Record { statement: usize },
+    StatementRecord { statement: usize },
     // layer 2: its meaning
     Parts { statement: usize },
     SignalUse { statement: usize },
@@ -42,9 +42,9 @@ impl Refusal {
         ensures { result ≡ number_of self.now }
     {
         match self {
-            Refusal::Form => Some(11),
+            Refusal::TableForm => Some(11),
             Refusal::SignalKind { .. } => Some(12),
-            Refusal::Record { .. } => Some(13),
+            Refusal::StatementRecord { .. } => Some(13),
             Refusal::Parts { .. } => Some(21),
             Refusal::SignalUse { .. } => Some(22),
             Refusal::Scope { .. } => Some(23),
@@ -70,7 +70,8 @@ impl Refusal {
         ensures { result ≡ layer_of self.now }
     {
         match self {
-            Refusal::Form | Refusal::SignalKind { .. } | Refusal::Record { .. } => Some(1),
+            Refusal::TableForm | Refusal::SignalKind { .. } | Refusal::StatementRecord { .. } =>
+                Some(1),
             Refusal::Parts { .. }
             | Refusal::SignalUse { .. }
             | Refusal::Scope { .. }
@@ -97,7 +98,7 @@ impl Refusal {
     {
         match self {
             Refusal::SignalKind { signal } | Refusal::NotInput { signal } => *signal,
-            Refusal::Record { statement }
+            Refusal::StatementRecord { statement }
             | Refusal::Parts { statement }
             | Refusal::SignalUse { statement }
             | Refusal::Scope { statement }
@@ -107,7 +108,7 @@ impl Refusal {
             | Refusal::StillReady { statement }
             | Refusal::RecordMarks { statement } => *statement,
             Refusal::RecordHead { offset } => *offset,
-            Refusal::Form
+            Refusal::TableForm
             | Refusal::AlreadyOpen
             | Refusal::AlreadyOver
             | Refusal::NoInstantLeft

@@ -21,10 +21,10 @@ pub struct Table {
 impl Table {
     ghost use Rattle.routine.specs.Kinds.{shape, kind_at};
     ghost use Rattle.routine.specs.Tree.{node, tree_at};
-    ghost use Rattle.routine.specs.View.{signals_of, kinds_of, count_of, PartsRise};
+    ghost use Rattle.routine.specs.View.{table_signals, table_kinds, count_of, PartsRise};
 
     pub(crate) fn rows(&self) -> Rows<'_>
-        ensures signals { result.signals.now ≡ signals_of self.now }
+        ensures signals { result.signals.now ≡ table_signals self.now }
         ensures statements { result.statements.now ≡ vec_items self.now.statements }
     {
         Rows {
@@ -35,23 +35,23 @@ impl Table {
 
     pub(crate) fn count(&self) -> usize
         ensures rows { result ≡ count_of self.now }
-        ensures listed { result ≡ length (kinds_of self.now) }
+        ensures listed { result ≡ length (table_kinds self.now) }
     {
         self.statements.len()
     }
 
     // The kind of a signal, if there is one of that number.
     pub fn signal(&self, signal: usize) -> Option<SignalKind>
-        ensures { result ≡ slice_get (signals_of self.now) signal }
+        ensures { result ≡ slice_get (table_signals self.now) signal }
     {
         self.rows().signal(signal)
     }
 
     // Statement i, one level of its tree, and where its parts lie. From the count on it counts as nothing.
     pub fn kind(&self, i: usize) -> Kind
-        ensures value { result ≡ kind_at (kinds_of self.now) i }
+        ensures value { result ≡ kind_at (table_kinds self.now) i }
         ensures rise { PartsRise (count_of self.now) i (shape result) }
-        ensures level { tree_at (kinds_of self.now) i ≡ node i (shape result) (tree_at (kinds_of self.now)) }
+        ensures level { tree_at (table_kinds self.now) i ≡ node i (shape result) (tree_at (table_kinds self.now)) }
     {
         self.rows().kind(i)
     }

@@ -4,8 +4,8 @@ use mathlib.Core.Option.{Option, none, some}
 use native.Mathlib.Decide.{ℕ_discrete}
 use Rattle.rules.specs.Runs.{Run, Quiet}
 use Rattle.rules.proofs.Permuted.{Perm, Out}
-use Rattle.rules.proofs.MarkedTrees.{Mark, idle, waiting, underway, done, Leaf, nothing, stop, emit, wait, One, loop, kill, local, Two, sequence, parallel, when}
-use Rattle.rules.proofs.MarkedTrees.{Marked, mleaf, mone, mtwo, begin, rest, Signals, Effect, quiet, raises, drops, apply, State, Scoped, Legal}
+use Rattle.rules.proofs.MarkedTrees.{Mark, Idle, Waiting, UnderWay, Done, Leaf, nothing, stop, emit, wait, One, loop, kill, local, Two, sequence, parallel, when}
+use Rattle.rules.proofs.MarkedTrees.{Marked, mleaf, mone, mtwo, begin, rest, Signals, Effect, no_effect, raises, drops, apply, State, Scoped, Legal}
 use Rattle.rules.proofs.Potential.{size, Turns}
 pub use Rattle.rules.specs.Rules.{is_done, two_over, pick, shut}
 
@@ -26,33 +26,33 @@ or_else none b = b
 or_else (some r) b = some r
 
 abbrev pub step_leaf : Signals → ℕ → Mark → Leaf → Change
-step_leaf e n idle k = none
-step_leaf e n waiting nothing = none
-step_leaf e n waiting stop = none
-step_leaf e n waiting (emit s) = some (mleaf n (emit s) done, raises s)
-step_leaf e n waiting (wait s) = cond (get_or e s false) (some (mleaf n (wait s) done, quiet)) none
-step_leaf e n underway k = none
-step_leaf e n done k = none
+step_leaf e n Idle k = none
+step_leaf e n Waiting nothing = none
+step_leaf e n Waiting stop = none
+step_leaf e n Waiting (emit s) = some (mleaf n (emit s) Done, raises s)
+step_leaf e n Waiting (wait s) = cond (get_or e s false) (some (mleaf n (wait s) Done, no_effect)) none
+step_leaf e n UnderWay k = none
+step_leaf e n Done k = none
 
 -- o: whether the part is over
 abbrev pub step_one : ℕ → Mark → One → Bool → Marked → Change
-step_one n idle loop o p = cond o (some (mone n loop waiting (rest p), quiet)) none
-step_one n waiting loop o p = some (mone n loop underway (begin p), quiet)
-step_one n underway loop o p = cond o (some (mone n loop waiting (rest p), quiet)) none
-step_one n done loop o p = cond o (some (mone n loop waiting (rest p), quiet)) none
-step_one n m (kill s) o p = cond o (some (mone n (kill s) done (rest p), quiet)) none
-step_one n idle (local s) o p = none
-step_one n waiting (local s) o p = some (mone n (local s) underway p, drops s)
-step_one n underway (local s) o p = cond o (some (mone n (local s) done (rest p), drops s)) none
-step_one n done (local s) o p = none
+step_one n Idle loop o p = cond o (some (mone n loop Waiting (rest p), no_effect)) none
+step_one n Waiting loop o p = some (mone n loop UnderWay (begin p), no_effect)
+step_one n UnderWay loop o p = cond o (some (mone n loop Waiting (rest p), no_effect)) none
+step_one n Done loop o p = cond o (some (mone n loop Waiting (rest p), no_effect)) none
+step_one n m (kill s) o p = cond o (some (mone n (kill s) Done (rest p), no_effect)) none
+step_one n Idle (local s) o p = none
+step_one n Waiting (local s) o p = some (mone n (local s) UnderWay p, drops s)
+step_one n UnderWay (local s) o p = cond o (some (mone n (local s) Done (rest p), drops s)) none
+step_one n Done (local s) o p = none
 
 abbrev pub step_two : Signals → ℕ → Mark → Two → Bool → Marked → Marked → Change
-step_two e n m sequence o p q = cond o (some (mtwo n sequence m (rest p) (begin q), quiet)) none
+step_two e n m sequence o p q = cond o (some (mtwo n sequence m (rest p) (begin q), no_effect)) none
 step_two e n m parallel o p q = none
-step_two e n idle (when s) o p q = none
-step_two e n waiting (when s) o p q = cond (get_or e s false) (some (mtwo n (when s) underway (begin p) q, quiet)) none
-step_two e n underway (when s) o p q = none
-step_two e n done (when s) o p q = none
+step_two e n Idle (when s) o p q = none
+step_two e n Waiting (when s) o p q = cond (get_or e s false) (some (mtwo n (when s) UnderWay (begin p) q, no_effect)) none
+step_two e n UnderWay (when s) o p q = none
+step_two e n Done (when s) o p q = none
 
 abbrev pub step : Signals → Marked → ℕ → Change
 step e (mleaf n k m) i = pick (ℕ_discrete i n) (step_leaf e n m k) none

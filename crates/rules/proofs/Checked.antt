@@ -5,12 +5,12 @@ use Rattle.routine.specs.declared.kinds.SignalKind.{SignalKind}
 use Rattle.routine.specs.declared.kinds.SignalKind.TheVariants.{Local as Own}
 use Rattle.routine.specs.declared.checked.Routine.{Routine}
 use Rattle.routine.specs.Layout.{Formed}
-use Rattle.routine.specs.View.{signals_of, kinds_of}
+use Rattle.routine.specs.View.{table_signals, table_kinds}
 use Rattle.routine.proofs.Whole.{some_statement}
 use Rattle.routine.specs.Search.{lowest, any}
 use Rattle.routine.specs.Kinds.{shape, kind_at, shape_at}
 use Rattle.routine.specs.Tree.{Tree, leaf, one, two, tree_at, contains, inside, can_end}
-use Rattle.routine.specs.Meaning.{is_local, signal_at, misuses, declares, encloses, in_scope, astray, unscoped, endless}
+use Rattle.routine.specs.Meaning.{is_local, signal_at, misuses, declares, encloses, in_scope, is_out_of_scope, unscoped, endless}
 use Rattle.routine.proofs.Searches.{found, lowest_below, none_below}
 use Rattle.routine.proofs.Trees.{Rising, rising, contains_in, in_under}
 use Rattle.routine.proofs.Passed.{Tested, tested, once}
@@ -51,8 +51,8 @@ declares_binds k s h = grind arith
 binds_local : (gs : List SignalKind) (k : Kind) (s : ℕ) → misuses gs k ≡ false → Binds (shape k) s → signal_at gs s ≡ Own
 binds_local gs k s h b = grind arith
 
-uses_astray : (gs : List SignalKind) (ks : List Kind) (i : ℕ) (k : Kind) (s : ℕ) → unscoped gs ks i k ≡ false → Uses (shape k) s → astray gs ks i s ≡ false
-uses_astray gs ks i k s h u = grind arith
+uses_out_of_scope : (gs : List SignalKind) (ks : List Kind) (i : ℕ) (k : Kind) (s : ℕ) → unscoped gs ks i k ≡ false → Uses (shape k) s → is_out_of_scope gs ks i s ≡ false
+uses_out_of_scope gs ks i k s h u = grind arith
 
 binds_alone : (gs : List SignalKind) (ks : List Kind) (i : ℕ) (k : Kind) (s : ℕ) → unscoped gs ks i k ≡ false → Binds (shape k) s
     → any (λ j. declares (kind_at ks j) s) i ≡ false
@@ -93,7 +93,7 @@ module _ (gs : List SignalKind) (ks : List Kind) (C : Checked gs ks) where
         inner_only = λ i s l b. binds_local gs (kind_at ks i) s (tests.uses i l) b;
         alone = λ i j s l m b c. let x = not_below i j s l b c in let y = not_below j i s m c b in omega arith;
         within = λ i s l u x.
-            let a = uses_astray gs ks i (kind_at ks i) s (tests.scopes i l) u in
+            let a = uses_out_of_scope gs ks i (kind_at ks i) s (tests.scopes i l) u in
             let d = astray_scope (is_local (signal_at gs s)) (in_scope ks s i) a (ap is_local x) in
             let f = any_says (encloses ks s i) (length ks) d in
             let g = both _ _ f.2 in (
@@ -115,10 +115,10 @@ module _ (gs : List SignalKind) (ks : List Kind) (C : Checked gs ks) where
       }
 
 -- every routine is one
-pub of_routine : (r : Routine) → Checked (signals_of r.table) (kinds_of r.table)
+pub of_routine : (r : Routine) → Checked (table_signals r.table) (table_kinds r.table)
 of_routine r =
     record {
-      formed = subst (λ (g : ℕ). Formed g (kinds_of r.table)) r.table.signals.ok.0 r.table.formed;
+      formed = subst (λ (g : ℕ). Formed g (table_kinds r.table)) r.table.signals.ok.0 r.table.formed;
       some = some_statement r;
       passed = r.passed;
     }

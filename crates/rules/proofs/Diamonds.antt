@@ -2,7 +2,7 @@
 use Rattle.std.proofs.Common.{◌≡◌, ℕ, true, false, ◌⊎◌, sym, refl, subst, inl, inr, arith}
 use Rattle.rules.proofs.MarkedTrees.{Mark, One, Two, sequence, parallel, when}
 use Rattle.rules.proofs.MarkedTrees.{Marked, mleaf, mone, mtwo, Pos, here, left, right, begin, rest, Over, Signals, Present, Ready, ReadyOne, ReadyTwo, Opened}
-use Rattle.rules.proofs.MarkedTrees.{after, eff, apply, Effect, quiet, raises, drops, live, Legal, Binds, Names, Scoped, Can, next, Fine}
+use Rattle.rules.proofs.MarkedTrees.{after, eff, apply, Effect, no_effect, raises, drops, live, Legal, Binds, Names, Scoped, Can, next, Fine}
 use Rattle.rules.proofs.Permuted.{Diamond}
 use Rattle.rules.proofs.Effects.{set_comm, set-set, set_other, set_more}
 
@@ -80,7 +80,7 @@ after_legal e (mtwo n k m p q) l (right x) r = right_grows e n k m p q x l r (af
 
 -- what a step's effect says of the tree
 abbrev Touches : Effect → Marked → Type 0
-Touches quiet t = Unit {0}
+Touches no_effect t = Unit {0}
 Touches (raises s) t = Names t s
 Touches (drops s) t = Binds t s
 
@@ -91,11 +91,11 @@ touches (mtwo n k m p q) x = let h = touches p in let g = touches q in grind ari
 
 -- two effects that may change places
 abbrev Apart : Effect → Effect → Type 0
-Apart quiet g = Unit {0}
-Apart (raises a) quiet = Unit {0}
+Apart no_effect g = Unit {0}
+Apart (raises a) no_effect = Unit {0}
 Apart (raises a) (raises b) = Unit {0}
 Apart (raises a) (drops b) = ¬ (a ≡ b)
-Apart (drops a) quiet = Unit {0}
+Apart (drops a) no_effect = Unit {0}
 Apart (drops a) (raises b) = ¬ (a ≡ b)
 Apart (drops a) (drops b) = Unit {0}
 

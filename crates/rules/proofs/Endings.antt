@@ -1,6 +1,6 @@
 -- the end of an instant: lists and trees agree, and legal marks stay so
 use Rattle.std.proofs.Common.{◌≡◌, ℕ, ◌<◌, Bool, true, false, List, length, set, refl, ◌∙◌, inl, inr, arith, length-set, get_or-set_other, get_or-set_same}
-use Rattle.rules.proofs.MarkedTrees.{Mark, idle, waiting, underway, done, One, Two, sequence, parallel, when}
+use Rattle.rules.proofs.MarkedTrees.{Mark, Idle, Waiting, UnderWay, Done, One, Two, sequence, parallel, when}
 use Rattle.rules.proofs.MarkedTrees.{Marked, mleaf, mone, mtwo, begin, Signals, Legal, live, is_live}
 use Rattle.rules.proofs.ByNumber.{two_over, Distinct}
 use Rattle.rules.proofs.ByNumber.{over as over_t}
@@ -12,16 +12,16 @@ use Rattle.rules.proofs.Steps.{set_own, begun_own, idled_own}
 
 -- the parts' facts only at the lists that are met: with the general fact in reach `grind` takes it at ever more lists
 end1_kept : (n : ℕ) (m : Mark) (k : One) (p : Tree) (go : List Mark → List Mark) (ms : List Mark) (e : Signals)
-    → Kept (In p) ms (go ms) → Kept (In p) (set ms n waiting) (go (set ms n waiting)) → Kept (In (one n k p)) ms (one_ended n m k p go ms e)
-end1_kept n m k p go ms e a b = let c = idled_kept p (set ms n done) in grind (arith, length-set, get_or-set_other)
+    → Kept (In p) ms (go ms) → Kept (In p) (set ms n Waiting) (go (set ms n Waiting)) → Kept (In (one n k p)) ms (one_ended n m k p go ms e)
+end1_kept n m k p go ms e a b = let c = idled_kept p (set ms n Done) in grind (arith, length-set, get_or-set_other)
 
 end2_kept : (n : ℕ) (m : Mark) (k : Two) (o : Bool) (p q : Tree) (go go' : List Mark → List Mark) (ms : List Mark)
     → Kept (In p) ms (go ms) → Kept (In q) (go ms) (go' (go ms)) → Kept (In (two n k p q)) ms (two_ended n m k o q go go' ms)
-end2_kept n m k o p q go go' ms a b = let c = begun_kept q (set ms n underway) in grind (arith, length-set, get_or-set_other)
+end2_kept n m k o p q go go' ms a b = let c = begun_kept q (set ms n UnderWay) in grind (arith, length-set, get_or-set_other)
 
 pub ended_kept : (t : Tree) (ms : List Mark) (e : Signals) → Kept (In t) ms (ended t ms e)
 ended_kept (leaf n k) ms e = let m = at ms n in grind (arith, length-set, get_or-set_other)
-ended_kept (one n k p) ms e = end1_kept n (at ms n) k p (λ ns. ended p ns e) ms e (ended_kept p ms e) (ended_kept p (set ms n waiting) e)
+ended_kept (one n k p) ms e = end1_kept n (at ms n) k p (λ ns. ended p ns e) ms e (ended_kept p ms e) (ended_kept p (set ms n Waiting) e)
 ended_kept (two n k p q) ms e =
     end2_kept n (at ms n) k (two_over k (over p ms) (over q ms)) p q (λ ns. ended p ns e) (λ ns. ended q ns e) ms (ended_kept p ms e) (ended_kept q (ended p ms e) e)
 
@@ -31,12 +31,12 @@ module _ (N : ℕ) (e : Signals) where
       → marked (one n k p) (one_ended n m k p (λ ns. ended p ns e) ms e) ≡ close1 e n m k (marked p ms) (close e (marked p ms))
   one_ends n m k p ms x d g f l b h =
       let a₁ = h ms l in
-      let a₂ = h (set ms n waiting) (length-set ms n waiting ∙ l) in
-      let a₃ = unset p ms n waiting d in
-      let a₄ = set_own N n p ms d g f l b waiting in
-      let a₅ = idled_own N n p ms d g f l b done in
+      let a₂ = h (set ms n Waiting) (length-set ms n Waiting ∙ l) in
+      let a₃ = unset p ms n Waiting d in
+      let a₄ = set_own N n p ms d g f l b Waiting in
+      let a₅ = idled_own N n p ms d g f l b Done in
       let a₆ = (ended_kept p ms e).other n d in
-      let a₇ = (ended_kept p (set ms n waiting) e).other n d in
+      let a₇ = (ended_kept p (set ms n Waiting) e).other n d in
       grind arith
 
   two_ends : (n : ℕ) (m : Mark) (k : Two) (o : Bool) (p q : Tree) (ms : List Mark) → m ≡ at ms n → Distinct (blank (two n k p q)) → Fits N (two n k p q) → length ms ≡ N
@@ -53,14 +53,14 @@ module _ (N : ℕ) (e : Signals) where
       let a₃ = unseen p ns (ended q ns e) c' d.2 in
       let a₄ = c.other n d.0 in
       let a₅ = c'.other n d.1 in
-      let a₆ = begun_own N n q ms d.1 d.4 (λ i u. f i (inr (inr u))) l (f n (inl refl)) underway in
-      let us = set ms n underway in
-      let a₇ = unseen p us (begun q us) (begun_kept q us) d.2 ∙ unset p ms n underway d.0 in
+      let a₆ = begun_own N n q ms d.1 d.4 (λ i u. f i (inr (inr u))) l (f n (inl refl)) UnderWay in
+      let us = set ms n UnderWay in
+      let a₇ = unseen p us (begun q us) (begun_kept q us) d.2 ∙ unset p ms n UnderWay d.0 in
       grind arith
 
   pub ended_same : (t : Tree) (ms : List Mark) → Distinct (blank t) → Fits N t → length ms ≡ N → marked t (ended t ms e) ≡ close e (marked t ms)
   ended_same (leaf n k) ms d f l =
-      let a = get_or-set_same ms n done idle (let a = f n refl in omega arith) in
+      let a = get_or-set_same ms n Done Idle (let a = f n refl in omega arith) in
       grind arith
   ended_same (one n k p) ms d f l =
       let fp : Fits N p = λ i h. f i (inr h) in
@@ -81,13 +81,13 @@ begin_legal (mtwo n k m p q) l b = let h = begin_legal p in let g = begin_legal 
 
 two_closes : (n : ℕ) (k : Two) (m : Mark) (o : Bool) (p q c d : Marked) → Legal (mtwo n k m p q) → Legal c × (live c ≡ live p) → Legal d × (live d ≡ live q)
     → (live q ≡ false → Legal (begin q) × (live (begin q) ≡ true)) → Legal (close2 n m k o p q c d) × (live (close2 n m k o p q c d) ≡ is_live m)
-two_closes n k idle o p q c d l h g b = (l, refl)
-two_closes n sequence waiting o p q c d l h g b = (l, refl)
-two_closes n parallel waiting o p q c d l h g b = (l, refl)
-two_closes n (when s) waiting o p q c d l h g b = grind arith
-two_closes n k underway true p q c d l h g b = (l, refl)
-two_closes n k underway false p q c d l h g b = ((rw (h.1, g.1) l.0, h.0, g.0), refl)
-two_closes n k done o p q c d l h g b = (l, refl)
+two_closes n k Idle o p q c d l h g b = (l, refl)
+two_closes n sequence Waiting o p q c d l h g b = (l, refl)
+two_closes n parallel Waiting o p q c d l h g b = (l, refl)
+two_closes n (when s) Waiting o p q c d l h g b = grind arith
+two_closes n k UnderWay true p q c d l h g b = (l, refl)
+two_closes n k UnderWay false p q c d l h g b = ((rw (h.1, g.1) l.0, h.0, g.0), refl)
+two_closes n k Done o p q c d l h g b = (l, refl)
 
 pub close_legal : (e : Signals) (t : Marked) → Legal t → Legal (close e t) × (live (close e t) ≡ live t)
 close_legal e (mleaf n k m) l = grind arith

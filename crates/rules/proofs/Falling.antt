@@ -1,6 +1,6 @@
 use Rattle.std.proofs.Common.{◌≡◌, ℕ, ◌+◌, ◌*◌, ◌<◌, ◌≤◌, Bool, true, false, cond, not, ◌⊎◌, List, length, sym, refl, ap, ◌∙◌, subst, ap₂, inl, inr, arith}
 use Rattle.rules.specs.Runs.{Run, still, then}
-use Rattle.rules.proofs.MarkedTrees.{Mark, idle, waiting, underway, done, One, Two, sequence, parallel, when}
+use Rattle.rules.proofs.MarkedTrees.{Mark, Idle, Waiting, UnderWay, Done, One, Two, sequence, parallel, when}
 use Rattle.rules.proofs.MarkedTrees.{Marked, mleaf, mone, mtwo, Pos, here, left, right, begin, rest, Over, Signals, Ready, ReadyOne, ReadyTwo, Opened}
 use Rattle.rules.proofs.MarkedTrees.{after, after_one, after_two, Legal, live, is_live, one_legal, two_legal, State, Can, next, Fine}
 use Rattle.rules.proofs.Potential.{size, most, ends, may, steps_left, Turns, Loops, InstantEnds, ends_one, ends_two, most_one, most_two, may_two}
@@ -138,20 +138,20 @@ which : (b c : Bool) → cond b (not c) c ≡ true → (c ≡ false) ⊎ (b ≡ 
 which true c h = inl (grind arith)
 which false c h = inr refl
 
-seq_1 : (n : ℕ) (p q : Marked) → (steps_left q ≡ 0) × (may q ≡ false) → most q ≤ 2 * size q → Bounded p → Bounded (mtwo n sequence underway p q)
+seq_1 : (n : ℕ) (p q : Marked) → (steps_left q ≡ 0) × (may q ≡ false) → most q ≤ 2 * size q → Bounded p → Bounded (mtwo n sequence UnderWay p q)
 seq_1 n p q w b h = grind arith
 
-seq_2 : (n : ℕ) (p q : Marked) → (steps_left p ≡ 0) × (may p ≡ false) → Bounded q → Bounded (mtwo n sequence underway p q)
+seq_2 : (n : ℕ) (p q : Marked) → (steps_left p ≡ 0) × (may p ≡ false) → Bounded q → Bounded (mtwo n sequence UnderWay p q)
 seq_2 n p q w g = grind arith
 
 two_bounded : (n : ℕ) (k : Two) (m : Mark) (p q : Marked) → two_legal m k (live p) (live q) ≡ true → most p ≤ 2 * size p → most q ≤ 2 * size q
     → (live p ≡ false → (steps_left p ≡ 0) × (may p ≡ false)) → (live q ≡ false → (steps_left q ≡ 0) × (may q ≡ false))
     → Bounded p → Bounded q → Bounded (mtwo n k m p q)
-two_bounded n sequence idle p q o a b i j h g = grind arith
-two_bounded n sequence waiting p q o a b i j h g = grind arith
-two_bounded n sequence underway p q o a b i j h g =
+two_bounded n sequence Idle p q o a b i j h g = grind arith
+two_bounded n sequence Waiting p q o a b i j h g = grind arith
+two_bounded n sequence UnderWay p q o a b i j h g =
     elim (which (live p) (live q) o) [ inl u ↦ let w = j u in seq_1 n p q w b h | inr u ↦ let w = i u in seq_2 n p q w g ]
-two_bounded n sequence done p q o a b i j h g = grind arith
+two_bounded n sequence Done p q o a b i j h g = grind arith
 two_bounded n parallel m p q o a b i j h g = grind arith
 two_bounded n (when s) m p q o a b i j h g = grind arith
 

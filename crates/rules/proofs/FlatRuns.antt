@@ -1,9 +1,9 @@
 -- runs over lists are runs over trees
 use Rattle.std.proofs.Common.{◌≡◌, ℕ, ◌*◌, ◌<◌, ◌≤◌, List, [], ◌∷◌, length, sym, refl, ap, ◌∙◌, subst, ap₂, arith, ext_get_or}
 use native.Mathlib.Decide.{ℕ_discrete}
-use Rattle.rules.specs.Runs.{Run, still, then, Quiet, count}
+use Rattle.rules.specs.Runs.{Run, still, then, Quiet, occurrences}
 use Rattle.rules.proofs.Permuted.{Out, here, later, Perm, none_left, one_more}
-use Rattle.rules.proofs.MarkedTrees.{Mark, idle, State, next, Signals, Legal, Scoped}
+use Rattle.rules.proofs.MarkedTrees.{Mark, Idle, State, next, Signals, Legal, Scoped}
 use Rattle.rules.proofs.Potential.{size, Turns, steps_left}
 use Rattle.rules.proofs.Falling.{falls, instant_ends}
 use Rattle.rules.proofs.ByNumber.{Distinct, step, Steps, go, Proper}
@@ -19,11 +19,11 @@ same_marks (leaf n k) ms ns e i h = grind arith
 same_marks (one n k p) ms ns e i h = let g = same_marks p ms ns in grind arith
 same_marks (two n k p q) ms ns e i h = let g = same_marks p ms ns in let f = same_marks q ms ns in grind arith
 
-out_counts : (k : ℕ) {i : ℕ} {w v : List ℕ} → Out i w v → count ℕ_discrete k w ≡ count ℕ_discrete k (i ∷ v)
+out_counts : (k : ℕ) {i : ℕ} {w v : List ℕ} → Out i w v → occurrences ℕ_discrete k w ≡ occurrences ℕ_discrete k (i ∷ v)
 out_counts k here = refl
 out_counts k (later d o) = let h = out_counts k o in omega arith
 
-perm_counts : (k : ℕ) {w u : List ℕ} → Perm w u → count ℕ_discrete k w ≡ count ℕ_discrete k u
+perm_counts : (k : ℕ) {w u : List ℕ} → Perm w u → occurrences ℕ_discrete k w ≡ occurrences ℕ_discrete k u
 perm_counts k none_left = refl
 perm_counts k (one_more o p) = let h = perm_counts k p in let g = out_counts k o in omega arith
 
@@ -63,7 +63,7 @@ module _ (N : ℕ) (t : Tree) (S : Sound N t) where
 
   pub sim_inj : (z y : Flat) → length z.0 ≡ N → length y.0 ≡ N → sim z ≡ sim y → z ≡ y
   sim_inj z y l k e =
-      let a : z.0 ≡ y.0 = ext_get_or idle z.0 y.0 (l ∙ sym k) (λ i h. same_marks t z.0 y.0 (ap (λ (u : State). u.0) e) i (S.whole i (omega arith))) in
+      let a : z.0 ≡ y.0 = ext_get_or Idle z.0 y.0 (l ∙ sym k) (λ i h. same_marks t z.0 y.0 (ap (λ (u : State). u.0) e) i (S.whole i (omega arith))) in
       let b : z.1 ≡ y.1 = ap (λ (u : State). u.1) e in
       ap₂ (λ (m : List Mark) (x : Signals). (m, x)) a b
 

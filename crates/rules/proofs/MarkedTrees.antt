@@ -1,7 +1,7 @@
 -- the language: statement trees that carry their marks
 use Rattle.std.proofs.Common.{◌≡◌, ℕ, Bool, true, false, ◌⊎◌, get_or, refl}
-pub use Rattle.rules.specs.Rules.{Mark, idle, waiting, underway, done, Leaf, nothing, stop, emit, wait, One, loop, kill, local, Two, sequence, parallel, when}
-pub use Rattle.rules.specs.Rules.{Signals, Effect, quiet, raises, drops, leaf_effect, one_effect, apply, is_live, leaf_begun as begun}
+pub use Rattle.rules.specs.Rules.{Mark, Idle, Waiting, UnderWay, Done, Leaf, nothing, stop, emit, wait, One, loop, kill, local, Two, sequence, parallel, when}
+pub use Rattle.rules.specs.Rules.{Signals, Effect, no_effect, raises, drops, leaf_effect, one_effect, apply, is_live, leaf_begun as begun}
 pub use Rattle.rules.specs.Legal.{leaf_legal, one_legal, two_legal}
 
 pub data Marked : Type 0 where
@@ -17,23 +17,23 @@ pub data Pos : Type 0 where
 
 abbrev pub begin : Marked → Marked
 begin (mleaf n k m) = mleaf n k (begun k)
-begin (mone n loop m p) = mone n loop waiting p
-begin (mone n (kill s) m p) = mone n (kill s) underway (begin p)
-begin (mone n (local s) m p) = mone n (local s) waiting (begin p)
-begin (mtwo n sequence m p q) = mtwo n sequence underway (begin p) q
-begin (mtwo n parallel m p q) = mtwo n parallel underway (begin p) (begin q)
-begin (mtwo n (when s) m p q) = mtwo n (when s) waiting p q
+begin (mone n loop m p) = mone n loop Waiting p
+begin (mone n (kill s) m p) = mone n (kill s) UnderWay (begin p)
+begin (mone n (local s) m p) = mone n (local s) Waiting (begin p)
+begin (mtwo n sequence m p q) = mtwo n sequence UnderWay (begin p) q
+begin (mtwo n parallel m p q) = mtwo n parallel UnderWay (begin p) (begin q)
+begin (mtwo n (when s) m p q) = mtwo n (when s) Waiting p q
 
 abbrev pub rest : Marked → Marked
-rest (mleaf n k m) = mleaf n k idle
-rest (mone n k m p) = mone n k idle (rest p)
-rest (mtwo n k m p q) = mtwo n k idle (rest p) (rest q)
+rest (mleaf n k m) = mleaf n k Idle
+rest (mone n k m p) = mone n k Idle (rest p)
+rest (mtwo n k m p q) = mtwo n k Idle (rest p) (rest q)
 
 abbrev pub IsDone : Mark → Type 0
-IsDone idle = ⊥
-IsDone waiting = ⊥
-IsDone underway = ⊥
-IsDone done = Unit {0}
+IsDone Idle = ⊥
+IsDone Waiting = ⊥
+IsDone UnderWay = ⊥
+IsDone Done = Unit {0}
 
 abbrev pub Over : Marked → Type 0
 Over (mleaf n k m) = IsDone m
@@ -47,40 +47,40 @@ Present e s = get_or e s false ≡ true
 
 -- the mark is matched first, so that each computes at a mark whatever the kind
 abbrev pub ReadyLeaf : Signals → Mark → Leaf → Type 0
-ReadyLeaf e idle k = ⊥
-ReadyLeaf e waiting nothing = ⊥
-ReadyLeaf e waiting stop = ⊥
-ReadyLeaf e waiting (emit s) = Unit {0}
-ReadyLeaf e waiting (wait s) = Present e s
-ReadyLeaf e underway k = ⊥
-ReadyLeaf e done k = ⊥
+ReadyLeaf e Idle k = ⊥
+ReadyLeaf e Waiting nothing = ⊥
+ReadyLeaf e Waiting stop = ⊥
+ReadyLeaf e Waiting (emit s) = Unit {0}
+ReadyLeaf e Waiting (wait s) = Present e s
+ReadyLeaf e UnderWay k = ⊥
+ReadyLeaf e Done k = ⊥
 
 abbrev pub ReadyOne : Mark → One → Marked → Type 0
-ReadyOne idle k p = ⊥
-ReadyOne waiting loop p = Unit {0}
-ReadyOne waiting (kill s) p = ⊥
-ReadyOne waiting (local s) p = Unit {0}
-ReadyOne underway k p = Over p
-ReadyOne done k p = ⊥
+ReadyOne Idle k p = ⊥
+ReadyOne Waiting loop p = Unit {0}
+ReadyOne Waiting (kill s) p = ⊥
+ReadyOne Waiting (local s) p = Unit {0}
+ReadyOne UnderWay k p = Over p
+ReadyOne Done k p = ⊥
 
 abbrev pub ReadyTwo : Signals → Mark → Two → Marked → Type 0
-ReadyTwo e idle k p = ⊥
-ReadyTwo e waiting sequence p = ⊥
-ReadyTwo e waiting parallel p = ⊥
-ReadyTwo e waiting (when s) p = Present e s
-ReadyTwo e underway sequence p = Over p
-ReadyTwo e underway parallel p = ⊥
-ReadyTwo e underway (when s) p = ⊥
-ReadyTwo e done k p = ⊥
+ReadyTwo e Idle k p = ⊥
+ReadyTwo e Waiting sequence p = ⊥
+ReadyTwo e Waiting parallel p = ⊥
+ReadyTwo e Waiting (when s) p = Present e s
+ReadyTwo e UnderWay sequence p = Over p
+ReadyTwo e UnderWay parallel p = ⊥
+ReadyTwo e UnderWay (when s) p = ⊥
+ReadyTwo e Done k p = ⊥
 
 -- a local that waits is shut
 abbrev pub Opened : Mark → One → Type 0
-Opened idle k = Unit {0}
-Opened waiting loop = Unit {0}
-Opened waiting (kill s) = Unit {0}
-Opened waiting (local s) = ⊥
-Opened underway k = Unit {0}
-Opened done k = Unit {0}
+Opened Idle k = Unit {0}
+Opened Waiting loop = Unit {0}
+Opened Waiting (kill s) = Unit {0}
+Opened Waiting (local s) = ⊥
+Opened UnderWay k = Unit {0}
+Opened Done k = Unit {0}
 
 abbrev pub Ready : Signals → Marked → Pos → Type 0
 Ready e (mleaf n k m) here = ReadyLeaf e m k
@@ -94,22 +94,22 @@ Ready e (mtwo n k m p q) (left x) = Ready e p x
 Ready e (mtwo n k m p q) (right x) = Ready e q x
 
 abbrev pub after_one : ℕ → Mark → One → Marked → Marked
-after_one n idle k p = mone n k idle p
-after_one n waiting loop p = mone n loop underway (begin p)
-after_one n waiting (kill s) p = mone n (kill s) waiting p
-after_one n waiting (local s) p = mone n (local s) underway p
-after_one n underway loop p = mone n loop waiting (rest p)
-after_one n underway (kill s) p = mone n (kill s) done (rest p)
-after_one n underway (local s) p = mone n (local s) done (rest p)
-after_one n done k p = mone n k done p
+after_one n Idle k p = mone n k Idle p
+after_one n Waiting loop p = mone n loop UnderWay (begin p)
+after_one n Waiting (kill s) p = mone n (kill s) Waiting p
+after_one n Waiting (local s) p = mone n (local s) UnderWay p
+after_one n UnderWay loop p = mone n loop Waiting (rest p)
+after_one n UnderWay (kill s) p = mone n (kill s) Done (rest p)
+after_one n UnderWay (local s) p = mone n (local s) Done (rest p)
+after_one n Done k p = mone n k Done p
 
 abbrev pub after_two : ℕ → Mark → Two → Marked → Marked → Marked
 after_two n m sequence p q = mtwo n sequence m (rest p) (begin q)
 after_two n m parallel p q = mtwo n parallel m p q
-after_two n m (when s) p q = mtwo n (when s) underway (begin p) q
+after_two n m (when s) p q = mtwo n (when s) UnderWay (begin p) q
 
 abbrev pub after : Marked → Pos → Marked
-after (mleaf n k m) here = mleaf n k done
+after (mleaf n k m) here = mleaf n k Done
 after (mleaf n k m) (left x) = mleaf n k m
 after (mleaf n k m) (right x) = mleaf n k m
 after (mone n k m p) here = after_one n m k p
@@ -121,12 +121,12 @@ after (mtwo n k m p q) (right x) = mtwo n k m p (after q x)
 
 abbrev pub eff : Marked → Pos → Effect
 eff (mleaf n k m) here = leaf_effect k
-eff (mleaf n k m) (left x) = quiet
-eff (mleaf n k m) (right x) = quiet
+eff (mleaf n k m) (left x) = no_effect
+eff (mleaf n k m) (right x) = no_effect
 eff (mone n k m p) here = one_effect k
 eff (mone n k m p) (left x) = eff p x
-eff (mone n k m p) (right x) = quiet
-eff (mtwo n k m p q) here = quiet
+eff (mone n k m p) (right x) = no_effect
+eff (mtwo n k m p q) here = no_effect
 eff (mtwo n k m p q) (left x) = eff p x
 eff (mtwo n k m p q) (right x) = eff q x
 

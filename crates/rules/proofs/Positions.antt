@@ -4,9 +4,9 @@ use mathlib.Core.Option.{Option, none, some}
 use native.Mathlib.Decide.{ℕ_discrete}
 use Rattle.rules.specs.Runs.{Run, still, then}
 use Rattle.rules.proofs.Permuted.{Diamond}
-use Rattle.rules.proofs.MarkedTrees.{Mark, done, Leaf, One, Two}
+use Rattle.rules.proofs.MarkedTrees.{Mark, Done, Leaf, One, Two}
 use Rattle.rules.proofs.MarkedTrees.{Marked, mleaf, mone, mtwo, Pos, here, left, right, rest, Over, Signals, Ready, ReadyLeaf, ReadyOne, ReadyTwo, Opened}
-use Rattle.rules.proofs.MarkedTrees.{after, after_one, after_two, eff, leaf_effect, one_effect, apply, Effect, quiet, live, one_legal, two_legal, Legal}
+use Rattle.rules.proofs.MarkedTrees.{after, after_one, after_two, eff, leaf_effect, one_effect, apply, Effect, no_effect, live, one_legal, two_legal, Legal}
 use Rattle.rules.proofs.MarkedTrees.{State, Can, next, Fine, Scoped}
 use Rattle.rules.proofs.MarkedTrees.{number, number_rest}
 use Rattle.rules.proofs.ByNumber.{over, two_over, is_done, pick, Change, inside, or_else, step_leaf, step_one, step_two, shut, step}
@@ -48,7 +48,7 @@ same_some : {A : Type 0} {a r : A} → some a ≡ some r → r ≡ a
 same_some h = cc
 
 own_leaf : (e : Signals) (n : ℕ) (m : Mark) (k : Leaf) {r : Marked × Effect} → step_leaf e n m k ≡ some r
-    → ReadyLeaf e m k × (r ≡ (mleaf n k done, leaf_effect k))
+    → ReadyLeaf e m k × (r ≡ (mleaf n k Done, leaf_effect k))
 own_leaf e n m k h = grind arith
 
 own_one : (n : ℕ) (m : Mark) (k : One) (b o : Bool) (p : Marked) {r : Marked × Effect} → one_legal m k b ≡ true → (b ≡ false → ¬ (o ≡ true)) → (o ≡ true → Over p)
@@ -56,7 +56,7 @@ own_one : (n : ℕ) (m : Mark) (k : One) (b o : Bool) (p : Marked) {r : Marked �
 own_one n m k b o p g i f h = grind arith
 
 own_two : (e : Signals) (n : ℕ) (m : Mark) (k : Two) (b c o : Bool) (p q : Marked) {r : Marked × Effect} → two_legal m k b c ≡ true
-    → (b ≡ false → ¬ (o ≡ true)) → (o ≡ true → Over p) → step_two e n m k o p q ≡ some r → ReadyTwo e m k p × (r ≡ (after_two n m k p q, quiet))
+    → (b ≡ false → ¬ (o ≡ true)) → (o ≡ true → Over p) → step_two e n m k o p q ≡ some r → ReadyTwo e m k p × (r ≡ (after_two n m k p q, no_effect))
 own_two e n m k b c o p q g i f h = grind arith
 
 opened : (m : Mark) (k : One) {o : Change} {a : Marked × Effect} → cond (shut m k) none o ≡ some a → Opened m k × (o ≡ some a)
@@ -101,13 +101,13 @@ module _ (e : Signals) (i : ℕ) where
       at (no d) none none f g h = absurd (none≢some refl h)
 
 -- and back
-leaf_own : (e : Signals) (n : ℕ) (m : Mark) (k : Leaf) → ReadyLeaf e m k → step_leaf e n m k ≡ some (mleaf n k done, leaf_effect k)
+leaf_own : (e : Signals) (n : ℕ) (m : Mark) (k : Leaf) → ReadyLeaf e m k → step_leaf e n m k ≡ some (mleaf n k Done, leaf_effect k)
 leaf_own e n m k r = grind arith
 
 one_own : (n : ℕ) (m : Mark) (k : One) (p : Marked) → ReadyOne m k p → step_one n m k (over p) p ≡ some (after_one n m k p, one_effect k)
 one_own n m k p r = grind (arith, over_is)
 
-two_own : (e : Signals) (n : ℕ) (m : Mark) (k : Two) (p q : Marked) → ReadyTwo e m k p → step_two e n m k (over p) p q ≡ some (after_two n m k p q, quiet)
+two_own : (e : Signals) (n : ℕ) (m : Mark) (k : Two) (p q : Marked) → ReadyTwo e m k p → step_two e n m k (over p) p q ≡ some (after_two n m k p q, no_effect)
 two_own e n m k p q r = grind (arith, over_is)
 
 module _ (e : Signals) where

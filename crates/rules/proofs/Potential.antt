@@ -1,7 +1,7 @@
 -- how many steps an instant can still take
 use Rattle.std.proofs.Common.{◌≡◌, ℕ, ◌+◌, ◌*◌, ◌≤◌, Bool, true, false, cond, ◌&&◌, ◌||◌, List, length}
 use Rattle.rules.specs.Runs.{Run}
-use Rattle.rules.proofs.MarkedTrees.{Mark, idle, waiting, underway, done, Leaf, nothing, stop, emit, wait, One, loop, kill, local, Two, sequence, parallel, when}
+use Rattle.rules.proofs.MarkedTrees.{Mark, Idle, Waiting, UnderWay, Done, Leaf, nothing, stop, emit, wait, One, loop, kill, local, Two, sequence, parallel, when}
 use Rattle.rules.proofs.MarkedTrees.{Marked, mleaf, mone, mtwo, Pos, rest, State, Can, next, Fine}
 
 abbrev pub size : Marked → ℕ
@@ -54,25 +54,25 @@ ends (mtwo n k m p q) = ends_two k (ends p) (ends q)
 
 -- of a tree as it stands
 abbrev pub may_leaf : Mark → Leaf → Bool
-may_leaf idle k = false
-may_leaf waiting k = ends_leaf k
-may_leaf underway k = false
-may_leaf done k = true
+may_leaf Idle k = false
+may_leaf Waiting k = ends_leaf k
+may_leaf UnderWay k = false
+may_leaf Done k = true
 
 abbrev pub may_one : Mark → One → Bool → Bool
-may_one idle k b = false
-may_one waiting k b = ends_one k b
-may_one underway k b = ends_one k b
-may_one done k b = true
+may_one Idle k b = false
+may_one Waiting k b = ends_one k b
+may_one UnderWay k b = ends_one k b
+may_one Done k b = true
 
 -- b and c: whether the parts may end as they stand; f and g: whether they can end, fresh
 abbrev pub may_two : Mark → Two → Bool → Bool → Bool → Bool → Bool
-may_two idle k b c f g = false
-may_two waiting k b c f g = f
-may_two underway sequence b c f g = cond b g c
-may_two underway parallel b c f g = b && c
-may_two underway (when s) b c f g = b || c
-may_two done k b c f g = true
+may_two Idle k b c f g = false
+may_two Waiting k b c f g = f
+may_two UnderWay sequence b c f g = cond b g c
+may_two UnderWay parallel b c f g = b && c
+may_two UnderWay (when s) b c f g = b || c
+may_two Done k b c f g = true
 
 abbrev pub may : Marked → Bool
 may (mleaf n k m) = may_leaf m k
@@ -80,29 +80,29 @@ may (mone n k m p) = may_one m k (may p)
 may (mtwo n k m p q) = may_two m k (may p) (may q) (ends p) (ends q)
 
 abbrev pub left_leaf : Mark → Leaf → ℕ
-left_leaf idle k = 0
-left_leaf waiting k = most_leaf k
-left_leaf underway k = 0
-left_leaf done k = 0
+left_leaf Idle k = 0
+left_leaf Waiting k = most_leaf k
+left_leaf UnderWay k = 0
+left_leaf Done k = 0
 
 -- r: what is left of the part; e: whether it may end; b: its most
 abbrev pub left_one : Mark → One → ℕ → Bool → ℕ → ℕ
-left_one idle k r e b = 0
-left_one waiting loop r e b = 1 + b
-left_one waiting (kill s) r e b = 0
-left_one waiting (local s) r e b = r + cond e 2 1
-left_one underway loop r e b = r + cond e (2 + b) 0
-left_one underway (kill s) r e b = r + cond e 1 0
-left_one underway (local s) r e b = r + cond e 1 0
-left_one done k r e b = 0
+left_one Idle k r e b = 0
+left_one Waiting loop r e b = 1 + b
+left_one Waiting (kill s) r e b = 0
+left_one Waiting (local s) r e b = r + cond e 2 1
+left_one UnderWay loop r e b = r + cond e (2 + b) 0
+left_one UnderWay (kill s) r e b = r + cond e 1 0
+left_one UnderWay (local s) r e b = r + cond e 1 0
+left_one Done k r e b = 0
 
 abbrev pub left_two : Mark → Two → ℕ → Bool → ℕ → ℕ → ℕ → ℕ
-left_two idle k r e b u c = 0
-left_two waiting k r e b u c = 1 + b
-left_two underway sequence r e b u c = r + cond e (1 + c) 0 + u
-left_two underway parallel r e b u c = r + u
-left_two underway (when s) r e b u c = r + u
-left_two done k r e b u c = 0
+left_two Idle k r e b u c = 0
+left_two Waiting k r e b u c = 1 + b
+left_two UnderWay sequence r e b u c = r + cond e (1 + c) 0 + u
+left_two UnderWay parallel r e b u c = r + u
+left_two UnderWay (when s) r e b u c = r + u
+left_two Done k r e b u c = 0
 
 abbrev pub steps_left : Marked → ℕ
 steps_left (mleaf n k m) = left_leaf m k

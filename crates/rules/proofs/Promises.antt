@@ -27,8 +27,8 @@ use Rattle.rules.proofs.Inward.{none_in_over, none_in_ready}
 row_of : (a b c : Bool) → (a && (b && c)) ≡ true → b ≡ true
 row_of a b c h = grind arith
 
-pub rows : (now : Bool) (ks : List Kind) (ms : List Mark) → Legal now ks ms → LegalMarks ks ms
-rows now ks ms L i l = row_of _ (row_legal ms i (shape_at ks i)) (open_legal now ks ms i) (L.each i l)
+pub rows : (in_instant : Bool) (ks : List Kind) (ms : List Mark) → Legal in_instant ks ms → LegalMarks ks ms
+rows in_instant ks ms L i l = row_of _ (row_legal ms i (shape_at ks i)) (open_legal in_instant ks ms i) (L.each i l)
 
 module _ (gs : List SignalKind) (ks : List Kind) (C : Checked gs ks) where
   T : Table ks gs

@@ -1,14 +1,14 @@
 use Rattle.std.proofs.Common.{◌≡◌, List, ◌∷◌, map, sym, refl, subst, arith}
-use Rattle.rules.specs.Runs.{Run, still, then, Quiet, count}
+use Rattle.rules.specs.Runs.{Run, still, then, Quiet, occurrences}
 use Rattle.rules.proofs.Permuted.{Out, here, later, Perm, none_left, one_more, Diamond}
 
 -- the labels may be counted by what they stand for
 module _ {L M : Type 0} (same : (i j : M) → Dec (i ≡ j)) (f : L → M) (k : M) where
-  out_counts : {i : L} {w v : List L} → Out i w v → count same k (map f w) ≡ count same k (map f (i ∷ v))
+  out_counts : {i : L} {w v : List L} → Out i w v → occurrences same k (map f w) ≡ occurrences same k (map f (i ∷ v))
   out_counts here = refl
   out_counts (later d o) = let h = out_counts o in omega arith
 
-  pub perm_counts : {w u : List L} → Perm w u → count same k (map f w) ≡ count same k (map f u)
+  pub perm_counts : {w u : List L} → Perm w u → occurrences same k (map f w) ≡ occurrences same k (map f u)
   perm_counts none_left = refl
   perm_counts (one_more o p) = let h = perm_counts p in let g = out_counts o in omega arith
 

@@ -1,8 +1,8 @@
 -- the language over a static shape and a list of marks
 use Rattle.std.proofs.Common.{◌≡◌, ℕ, true, List, set}
 use native.Mathlib.Decide.{ℕ_discrete}
-use Rattle.rules.proofs.MarkedTrees.{Mark, idle, done}
-use Rattle.rules.proofs.MarkedTrees.{Marked, mleaf, mone, mtwo, Signals, Effect, quiet, raises, drops, apply, leaf_effect, one_effect}
+use Rattle.rules.proofs.MarkedTrees.{Mark, Idle, Done}
+use Rattle.rules.proofs.MarkedTrees.{Marked, mleaf, mone, mtwo, Signals, Effect, no_effect, raises, drops, apply, leaf_effect, one_effect}
 use Rattle.rules.proofs.ByNumber.{pick}
 pub use Rattle.routine.specs.declared.kinds.Kind.{Kind}
 pub use Rattle.routine.specs.declared.kinds.Kind.TheVariants.{Nothing}
@@ -12,9 +12,9 @@ pub use Rattle.rules.specs.Rules.{at, begun, idled, over, leaf_rule, one_rule, t
 
 -- a shape without marks, as a tree: all idle
 abbrev pub blank : Tree → Marked
-blank (leaf n k) = mleaf n k idle
-blank (one n k p) = mone n k idle (blank p)
-blank (two n k p q) = mtwo n k idle (blank p) (blank q)
+blank (leaf n k) = mleaf n k Idle
+blank (one n k p) = mone n k Idle (blank p)
+blank (two n k p q) = mtwo n k Idle (blank p) (blank q)
 
 abbrev pub marked : Tree → List Mark → Marked
 marked (leaf n k) ms = mleaf n k (at ms n)
@@ -23,19 +23,19 @@ marked (two n k p q) ms = mtwo n k (at ms n) (marked p ms) (marked q ms)
 
 -- the marks after the step of statement i
 abbrev pub fired : Tree → List Mark → ℕ → List Mark
-fired (leaf n k) ms i = pick (ℕ_discrete i n) (set ms n done) ms
+fired (leaf n k) ms i = pick (ℕ_discrete i n) (set ms n Done) ms
 fired (one n k p) ms i = pick (ℕ_discrete i n) (one_fired n (at ms n) k p ms) (fired p ms i)
 fired (two n k p q) ms i = pick (ℕ_discrete i n) (two_fired n k p q ms) (fired q (fired p ms i) i)
 
 abbrev pub either : Effect → Effect → Effect
-either quiet g = g
+either no_effect g = g
 either (raises s) g = raises s
 either (drops s) g = drops s
 
 abbrev pub effect : Tree → ℕ → Effect
-effect (leaf n k) i = pick (ℕ_discrete i n) (leaf_effect k) quiet
+effect (leaf n k) i = pick (ℕ_discrete i n) (leaf_effect k) no_effect
 effect (one n k p) i = pick (ℕ_discrete i n) (one_effect k) (effect p i)
-effect (two n k p q) i = pick (ℕ_discrete i n) quiet (either (effect p i) (effect q i))
+effect (two n k p q) i = pick (ℕ_discrete i n) no_effect (either (effect p i) (effect q i))
 
 abbrev pub Flat : Type 0
 Flat = List Mark × Signals

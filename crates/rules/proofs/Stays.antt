@@ -5,7 +5,7 @@ use Rattle.routine.specs.declared.kinds.Kind.{Kind}
 use Rattle.routine.specs.declared.kinds.SignalKind.{SignalKind}
 use Rattle.routine.specs.Kinds.{shape_at}
 use Rattle.routine.specs.Tree.{tree_at}
-use Rattle.rules.specs.Rules.{Mark, idle, at, is_live, begun, ended, reached}
+use Rattle.rules.specs.Rules.{Mark, Idle, at, is_live, begun, ended, reached}
 use Rattle.rules.specs.Legal.{Legal, row_legal}
 use Rattle.rules.specs.Model.{Config, Ready, first_marks}
 use Rattle.rules.specs.Theorems.{Checked, MarksStayLegal}
@@ -49,12 +49,12 @@ module _ (gs : List SignalKind) (ks : List Kind) (C : Checked gs ks) where
   live_root ms = root_live ks T.shaped ms 0 T.some_row
 
   -- legal marks from what is known of the tree
-  make : (now : Bool) (ms : List Mark) → length ms ≡ length ks → Lawful (marked (tree_at ks 0) ms) → live (marked (tree_at ks 0) ms) ≡ true
-      → ((i : ℕ) → i < length ks → open_at ks ms i ≡ true → (now && reached (tree_at ks 0) ms i) ≡ true) → Legal now ks ms
-  make now ms l g v o =
+  make : (in_instant : Bool) (ms : List Mark) → length ms ≡ length ks → Lawful (marked (tree_at ks 0) ms) → live (marked (tree_at ks 0) ms) ≡ true
+      → ((i : ℕ) → i < length ks → open_at ks ms i ≡ true → (in_instant && reached (tree_at ks 0) ms i) ≡ true) → Legal in_instant ks ms
+  make in_instant ms l g v o =
       record {
         many = l;
-        each = λ i m. put_together (eqb i 0) (is_live (at ms 0)) (row_legal ms i (shape_at ks i)) (open_at ks ms i) (now && reached (tree_at ks 0) ms i)
+        each = λ i m. put_together (eqb i 0) (is_live (at ms 0)) (row_legal ms i (shape_at ks i)) (open_at ks ms i) (in_instant && reached (tree_at ks 0) ms i)
             (sym (live_root ms) ∙ v) (from_legal ks gs T ms g i m) (o i m);
       }
 
@@ -70,12 +70,12 @@ module _ (gs : List SignalKind) (ks : List Kind) (C : Checked gs ks) where
   starts =
       let S = sound ks gs T in
       let t = tree_at ks 0 in
-      let os = replicate (length ks) idle in
+      let os = replicate (length ks) Idle in
       let r : (Lawful (blank t) × (live (blank t) ≡ false)) = subst (λ u. Lawful u × (live u ≡ false)) (marked_rest t os) (rest_legal (marked t os)) in
       let n : no_open (blank t) ≡ true = subst (λ u. no_open u ≡ true) (marked_rest t os) (rest_closed (marked t os)) in
-      let e : marked t (begun t os) ≡ begin (blank t) = begun_same (length ks) t os S.distinct S.below (length-replicate (length ks) idle) ∙ ap begin (idle_blank t (length ks)) in
+      let e : marked t (begun t os) ≡ begin (blank t) = begun_same (length ks) t os S.distinct S.below (length-replicate (length ks) Idle) ∙ ap begin (idle_blank t (length ks)) in
       let b = begin_legal (blank t) r.0 r.1 in
-      make false (begun t os) ((begun_kept t os).length ∙ length-replicate (length ks) idle) (subst Lawful (sym e) b.0) (ap live e ∙ b.1)
+      make false (begun t os) ((begun_kept t os).length ∙ length-replicate (length ks) Idle) (subst Lawful (sym e) b.0) (ap live e ∙ b.1)
       (λ i m o. absurd (false_true (from_closed ks T.shaped T.once (begun t os) T.some_row (ap no_open e ∙ begin_closed (blank t) n) i (in_root i m)) o))
 
   after_step : (c : Config) (i : ℕ) → Legal true ks c.0 → Ready ks c i → Legal true ks (from_root (tree_at ks 0) c i).0

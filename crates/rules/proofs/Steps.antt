@@ -2,22 +2,22 @@
 use Rattle.std.proofs.Common.{◌≡◌, ℕ, ◌<◌, Bool, false, cond, not, ◌&&◌, ◌⊎◌, List, length, set, refl, ap, ◌∙◌, inl, inr, arith, length-set, get_or-set_other, get_or-set_same}
 use mathlib.Core.Option.{none, some}
 use native.Mathlib.Decide.{ℕ_discrete}
-use Rattle.rules.proofs.MarkedTrees.{Mark, idle, waiting, underway, done, One, Two}
-use Rattle.rules.proofs.MarkedTrees.{Marked, mone, begin, rest, Signals, Effect, quiet, one_effect}
+use Rattle.rules.proofs.MarkedTrees.{Mark, Idle, Waiting, UnderWay, Done, One, Two}
+use Rattle.rules.proofs.MarkedTrees.{Marked, mone, begin, rest, Signals, Effect, no_effect, one_effect}
 use Rattle.rules.proofs.ByNumber.{shut, Distinct, Change, inside, step, step_one, step_two}
 use Rattle.rules.proofs.Shapes.{Tree, leaf, one, two, blank, at, marked, begun, idled, over, ready, one_rule, two_rule, one_fired, two_fired, fired, effect}
 use Rattle.rules.proofs.Frames.{Kept, In, begun_kept, idled_kept, unseen, unset, Fits, begun_same, idled_same, over_same}
 
 fire1_kept : (n : ℕ) (m : Mark) (k : One) (p : Tree) (ms : List Mark) → Kept (In (one n k p)) ms (one_fired n m k p ms)
 fire1_kept n m k p ms =
-    let a = begun_kept p (set ms n underway) in
-    let b = idled_kept p (set ms n waiting) in
-    let c = idled_kept p (set ms n done) in
+    let a = begun_kept p (set ms n UnderWay) in
+    let b = idled_kept p (set ms n Waiting) in
+    let c = idled_kept p (set ms n Done) in
     grind (arith, length-set, get_or-set_other)
 
 fire2_kept : (n : ℕ) (k : Two) (p q : Tree) (ms : List Mark) → Kept (In (two n k p q)) ms (two_fired n k p q ms)
 fire2_kept n k p q ms =
-    let a = begun_kept p (set ms n underway) in
+    let a = begun_kept p (set ms n UnderWay) in
     let b = idled_kept p ms in
     let c = begun_kept q (idled p ms) in
     grind (arith, length-set, get_or-set_other)
@@ -42,7 +42,7 @@ unready (leaf n k) ms e i d = grind arith
 unready (one n k p) ms e i d = let h = unready p ms e i in grind arith
 unready (two n k p q) ms e i d = let h = unready p ms e i in let g = unready q ms e i in grind arith
 
-pub uneffective : (t : Tree) (i : ℕ) → ¬ (In t i) → effect t i ≡ quiet
+pub uneffective : (t : Tree) (i : ℕ) → ¬ (In t i) → effect t i ≡ no_effect
 uneffective (leaf n k) i d = grind arith
 uneffective (one n k p) i d = let h = uneffective p i in grind arith
 uneffective (two n k p q) i d = let h = uneffective p i in let g = uneffective q i in grind arith
@@ -68,7 +68,7 @@ result t ms e i = cond (ready t ms e i) (some (marked t (fired t ms i), effect t
 -- the part p, and the number n, after a writer has been at n and then inside p
 module _ (N n : ℕ) (p : Tree) (ms : List Mark) (d : ¬ (In p n)) (g : Distinct (blank p)) (f : Fits N p) (l : length ms ≡ N) (a : n < N) where
   pub set_own : (m : Mark) → at (set ms n m) n ≡ m
-  set_own m = get_or-set_same ms n m idle (omega arith)
+  set_own m = get_or-set_same ms n m Idle (omega arith)
 
   pub begun_own : (m : Mark) → (at (begun p (set ms n m)) n ≡ m) × (marked p (begun p (set ms n m)) ≡ begin (marked p ms))
   begun_own m = (
@@ -85,22 +85,22 @@ module _ (N n : ℕ) (p : Tree) (ms : List Mark) (d : ¬ (In p n)) (g : Distinct
   own1 : (m : Mark) (k : One) (o : Bool)
       → step_one n m k o (marked p ms) ≡ cond (one_rule m k o) (some (marked (one n k p) (one_fired n m k p ms), one_effect k)) none
   own1 m k o =
-      let a₁ = begun_own underway in
-      let a₂ = idled_own waiting in
-      let a₃ = idled_own done in
-      let a₄ = set_own underway in
-      let a₅ = unset p ms n underway d in
+      let a₁ = begun_own UnderWay in
+      let a₂ = idled_own Waiting in
+      let a₃ = idled_own Done in
+      let a₄ = set_own UnderWay in
+      let a₅ = unset p ms n UnderWay d in
       grind arith
 
 module _ (N n : ℕ) (k : Two) (p q : Tree) (ms : List Mark) (d : Distinct (blank (two n k p q))) (f : Fits N (two n k p q)) (l : length ms ≡ N) where
   own2 : (e : Signals) (o : Bool)
-      → step_two e n (at ms n) k o (marked p ms) (marked q ms) ≡ cond (two_rule e (at ms n) k o) (some (marked (two n k p q) (two_fired n k p q ms), quiet)) none
+      → step_two e n (at ms n) k o (marked p ms) (marked q ms) ≡ cond (two_rule e (at ms n) k o) (some (marked (two n k p q) (two_fired n k p q ms), no_effect)) none
   own2 e o =
       let fp : Fits N p = λ j h. f j (inr (inl h)) in
       let fq : Fits N q = λ j h. f j (inr (inr h)) in
-      let w = begun_own N n p ms d.0 d.3 fp l (f n (inl refl)) underway in
-      let ns = set ms n underway in
-      let w' = unseen q ns (begun p ns) (begun_kept p ns) (λ i h g. d.2 i g h) ∙ unset q ms n underway d.1 in
+      let w = begun_own N n p ms d.0 d.3 fp l (f n (inl refl)) UnderWay in
+      let ns = set ms n UnderWay in
+      let w' = unseen q ns (begun p ns) (begun_kept p ns) (λ i h g. d.2 i g h) ∙ unset q ms n UnderWay d.1 in
       let is = idled p ms in
       let a₁ = (begun_kept q is).other n d.1 ∙ (idled_kept p ms).other n d.0 in
       let a₂ = unseen p is (begun q is) (begun_kept q is) d.2 ∙ idled_same N p ms d.3 fp l in
@@ -108,11 +108,11 @@ module _ (N n : ℕ) (k : Two) (p q : Tree) (ms : List Mark) (d : Distinct (blan
       grind arith
 
   -- a step inside a part
-  in_left : (i : ℕ) → In p i → (ns : List Mark) → Kept (In p) ms ns → (fired q ns i ≡ ns) × (at ns n ≡ at ms n) × (marked q ns ≡ marked q ms) × (effect q i ≡ quiet)
+  in_left : (i : ℕ) → In p i → (ns : List Mark) → Kept (In p) ms ns → (fired q ns i ≡ ns) × (at ns n ≡ at ms n) × (marked q ns ≡ marked q ms) × (effect q i ≡ no_effect)
   in_left i h ns c =
       (missed q ns i (d.2 i h), c.other n d.0, unseen q ms ns c (λ i h g. d.2 i g h), uneffective q i (d.2 i h))
 
-  in_right : (i : ℕ) → ¬ (In p i) → (ns : List Mark) → Kept (In q) ms ns → (fired p ms i ≡ ms) × (at ns n ≡ at ms n) × (marked p ns ≡ marked p ms) × (effect p i ≡ quiet)
+  in_right : (i : ℕ) → ¬ (In p i) → (ns : List Mark) → Kept (In q) ms ns → (fired p ms i ≡ ms) × (at ns n ≡ at ms n) × (marked p ns ≡ marked p ms) × (effect p i ≡ no_effect)
   in_right i h ns c = (missed p ms i h, c.other n d.1, unseen p ms ns c d.2, uneffective p i h)
 
 inner1 : (n : ℕ) (k : One) (p : Tree) (m : Mark) (r : Bool) (t : Marked) (c : Change) (x : Effect)
@@ -123,7 +123,7 @@ inner1 n k p m r t c x h = grind arith
 module _ (N : ℕ) (e : Signals) (i : ℕ) where
   pub step_same : (t : Tree) (ms : List Mark) → Distinct (blank t) → Fits N t → length ms ≡ N → step e (marked t ms) i ≡ result t ms e i
   step_same (leaf n k) ms d f l =
-      let a = get_or-set_same ms n done idle (let a = f n refl in omega arith) in
+      let a = get_or-set_same ms n Done Idle (let a = f n refl in omega arith) in
       let m = at ms n in
       grind arith
   step_same (one n k p) ms d f l =

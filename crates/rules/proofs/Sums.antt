@@ -4,7 +4,7 @@ use native.Mathlib.Decide.{ℕ_discrete}
 use Rattle.signals.specs.Sets.{word_set}
 use Rattle.routine.specs.declared.kinds.Kind.{Kind}
 use Rattle.routine.specs.declared.kinds.SignalKind.{SignalKind}
-use Rattle.rules.specs.Runs.{Run, still, then, count}
+use Rattle.rules.specs.Runs.{Run, still, then, occurrences}
 use Rattle.routine.specs.Tree.{tree_at}
 use Rattle.rules.specs.Rules.{over, ended}
 use Rattle.rules.specs.Model.{Config, Ready, stepped, path, enough, each_below, total, outputs_of, status_of}
@@ -21,17 +21,17 @@ pub data Below (n : ℕ) : List ℕ → Type 0 where
   none : Below n []
   more : {i : ℕ} {w : List ℕ} → i < n → Below n w → Below n (i ∷ w)
 
-none_counted : (n : ℕ) → total (each_below (λ i. count ℕ_discrete i []) n) ≡ 0
+none_counted : (n : ℕ) → total (each_below (λ i. occurrences ℕ_discrete i []) n) ≡ 0
 none_counted zero = refl
-none_counted (suc n) = let h = none_counted n in let g = total_push (each_below (λ i. count ℕ_discrete i []) n) 0 in omega arith
+none_counted (suc n) = let h = none_counted n in let g = total_push (each_below (λ i. occurrences ℕ_discrete i []) n) 0 in omega arith
 
 -- one more step of statement j adds one, once the sum has come past j
 module _ (j : ℕ) (w : List ℕ) where
   abbrev old : ℕ → ℕ
-  old i = count ℕ_discrete i w
+  old i = occurrences ℕ_discrete i w
 
   abbrev new : ℕ → ℕ
-  new i = count ℕ_discrete i (j ∷ w)
+  new i = occurrences ℕ_discrete i (j ∷ w)
 
   own : new j ≡ 1 + old j
   own = grind arith
@@ -61,7 +61,7 @@ module _ (j : ℕ) (w : List ℕ) where
         | no d ↦ let h = one_more n (omega arith) in let c = other n d in omega arith
       ]
 
-pub counted : (n : ℕ) {w : List ℕ} → Below n w → total (each_below (λ i. count ℕ_discrete i w) n) ≡ length w
+pub counted : (n : ℕ) {w : List ℕ} → Below n w → total (each_below (λ i. occurrences ℕ_discrete i w) n) ≡ length w
 counted n none = none_counted n
 counted n (more {i = i} {w = w} l b) = let h = counted n b in let g = one_more i w n l in omega arith
 
@@ -73,8 +73,8 @@ pub steps_add_up : (gs : List SignalKind) (ks : List Kind) → Checked gs ks →
 steps_add_up gs ks C ms input L =
     counted (length ks) (run_below gs ks C ((instant_ends gs ks C).model_runs (ms, word_set input) ((marks_stay_legal gs ks C).begins ms L)))
 
-same_times : (v w : List ℕ) (n : ℕ) → ((i : ℕ) → count ℕ_discrete i v ≡ count ℕ_discrete i w)
-    → each_below (λ i. count ℕ_discrete i v) n ≡ each_below (λ i. count ℕ_discrete i w) n
+same_times : (v w : List ℕ) (n : ℕ) → ((i : ℕ) → occurrences ℕ_discrete i v ≡ occurrences ℕ_discrete i w)
+    → each_below (λ i. occurrences ℕ_discrete i v) n ≡ each_below (λ i. occurrences ℕ_discrete i w) n
 same_times v w zero h = refl
 same_times v w (suc n) h = λ j. same_times v w n h j ++ (h n j ∷ [])
 

@@ -4,7 +4,7 @@ use Rattle.routine.specs.declared.kinds.Kind.{Kind}
 use Rattle.routine.specs.declared.kinds.SignalKind.{SignalKind}
 use Rattle.routine.specs.Tree.{Tree, tree_at, contains, can_end}
 use Rattle.routine.proofs.Trees.{in_contains, under_below}
-use Rattle.rules.specs.Rules.{Mark, idle, Signals, Effect, at, begun, over, ready, fire}
+use Rattle.rules.specs.Rules.{Mark, Idle, Signals, Effect, at, begun, over, ready, fire}
 use Rattle.rules.specs.Theorems.{Checked, InsideSteps, none_yet, and_then, TakesTime}
 use Rattle.rules.proofs.MarkedTrees.{Marked, Legal, live, begin, rest, after}
 use Rattle.rules.proofs.Potential.{may, Turns}
@@ -71,10 +71,10 @@ module _ (gs : List SignalKind) (ks : List Kind) (C : Checked gs ks) (i : ℕ) (
       let u = moved ms e j m g r in
       stays (u.many ∙ m) u.legal (not_true _ (λ w. false_true f (u.never w))) rest_of
 
-  pub takes_time : (ms ns : List Mark) → length ms ≡ length ks → can_end t ≡ false → ((j : ℕ) → contains t j ≡ true → at ms j ≡ idle)
+  pub takes_time : (ms ns : List Mark) → length ms ≡ length ks → can_end t ≡ false → ((j : ℕ) → contains t j ≡ true → at ms j ≡ Idle)
       → InsideSteps ks i (begun t ms) ns → over t ns ≡ false
   takes_time ms ns m c h s =
-      let os = replicate (length ks) idle in
+      let os = replicate (length ks) Idle in
       let b : marked t ms ≡ blank t = frame t os ms (λ j u. h j (in_contains t j (has_in t j u)) ∙ sym (all_idle (length ks) j)) ∙ idle_blank t (length ks) in
       let r : (Legal (blank t) × (live (blank t) ≡ false)) = subst (λ u. Legal u × (live u ≡ false)) (marked_rest t ms) (rest_legal (marked t ms)) in
       let e : marked t (begun t ms) ≡ begin (blank t) = begun_same (length ks) t ms apart fits m ∙ ap begin b in

@@ -1,7 +1,7 @@
 -- the tests of a table, and legal marks by statement
 use Rattle.std.proofs.Common.{◌≡◌, ℕ, ◌*◌, ◌<◌, ◌≤◌, true, List, length, get_or}
 use native.Mathlib.Decide.{ℕ_discrete}
-use Rattle.rules.specs.Runs.{Run, Quiet, count}
+use Rattle.rules.specs.Runs.{Run, Quiet, occurrences}
 use Rattle.rules.proofs.MarkedTrees.{Mark, One, loop, kill, local}
 use Rattle.rules.proofs.MarkedTrees.{BindsOne, NamesLeaf, NamesTwo}
 use Rattle.rules.proofs.Potential.{ends, Loops}
@@ -54,6 +54,6 @@ pub record OrderNeverShows (ks : List Kind) : Type 0 where
   pub same : (s z y : Flat) (w u : List ℕ) → length s.0 ≡ length ks → LegalMarks ks s.0
       → Run (Readies (tree_at ks 0)) (stepped (tree_at ks 0)) s w z → Quiet (Readies (tree_at ks 0)) z
       → Run (Readies (tree_at ks 0)) (stepped (tree_at ks 0)) s u y → Quiet (Readies (tree_at ks 0)) y
-      → (z ≡ y) × ((i : ℕ) → count ℕ_discrete i w ≡ count ℕ_discrete i u)
+      → (z ≡ y) × ((i : ℕ) → occurrences ℕ_discrete i w ≡ occurrences ℕ_discrete i u)
   pub bounded : (s z : Flat) (w : List ℕ) → length s.0 ≡ length ks → LegalMarks ks s.0
       → Run (Readies (tree_at ks 0)) (stepped (tree_at ks 0)) s w z → length w ≤ 4 * length ks

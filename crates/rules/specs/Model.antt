@@ -10,8 +10,8 @@ use Rattle.routine.specs.Tree.{tree_at}
 use Rattle.routine.specs.Meaning.{signal_at}
 use Rattle.rules.specs.declared.status.Status.{Status}
 use Rattle.rules.specs.declared.status.Status.TheVariants.{Suspended, Terminated}
-use Rattle.rules.specs.Runs.{count}
-use Rattle.rules.specs.Rules.{Mark, idle, Signals, begun, over, ready, fire, effect_of, apply, ended}
+use Rattle.rules.specs.Runs.{occurrences}
+use Rattle.rules.specs.Rules.{Mark, Idle, Signals, begun, over, ready, fire, effect_of, apply, ended}
 
 -- where an open instant stands: a mark for each statement, and the present signals
 abbrev pub Config : Type 0
@@ -95,7 +95,7 @@ closed gs ks c w =
     record {
       outputs = outputs_of gs c.1;
       status = status_of (over (tree_at ks 0) c.0);
-      times = each_below (λ i. count ℕ_discrete i w) (length ks);
+      times = each_below (λ i. occurrences ℕ_discrete i w) (length ks);
       steps = length w;
       marks = ended (tree_at ks 0) c.0 c.1;
     }
@@ -107,7 +107,7 @@ instant gs ks ms input =
 
 -- at first statement 0 is begun and all else is idle
 abbrev pub first_marks : List Kind → List Mark
-first_marks ks = begun (tree_at ks 0) (replicate (length ks) idle)
+first_marks ks = begun (tree_at ks 0) (replicate (length ks) Idle)
 
 abbrev pub instants_from : List SignalKind → List Kind → List Mark → List ℕ → List Outcome
 instants_from gs ks ms [] = []

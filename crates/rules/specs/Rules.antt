@@ -2,7 +2,7 @@
 use Rattle.std.specs.Prelude.{ℕ, Bool, true, false, cond, not, ◌&&◌, ◌||◌, List, slice_index_or, slice_set}
 use Rattle.std.proofs.Math.Decide.{ℕ_discrete}
 pub use Rattle.routine.specs.declared.kinds.Mark.{Mark}
-pub use Rattle.routine.specs.declared.kinds.Mark.TheVariants.{Idle as idle, Waiting as waiting, UnderWay as underway, Done as done}
+pub use Rattle.routine.specs.declared.kinds.Mark.TheVariants.{Idle, Waiting, UnderWay, Done}
 pub use Rattle.routine.specs.Kinds.{Leaf, nothing, stop, emit, wait, One, loop, kill, local, Two, sequence, parallel, when}
 pub use Rattle.routine.specs.Tree.{Tree, leaf, one, two}
 
@@ -17,43 +17,43 @@ pick (no d) x y = y
 
 -- the mark of statement i
 abbrev pub at : List Mark → ℕ → Mark
-at ms i = slice_index_or ms i idle
+at ms i = slice_index_or ms i Idle
 
 -- live means not idle
 abbrev pub is_live : Mark → Bool
-is_live idle = false
-is_live waiting = true
-is_live underway = true
-is_live done = true
+is_live Idle = false
+is_live Waiting = true
+is_live UnderWay = true
+is_live Done = true
 
 abbrev pub is_done : Mark → Bool
-is_done idle = false
-is_done waiting = false
-is_done underway = false
-is_done done = true
+is_done Idle = false
+is_done Waiting = false
+is_done UnderWay = false
+is_done Done = true
 
 -- TO BEGIN a statement: nothing is done; stop, emit, wait, loop and when wait; a sequence or kill is under way and its
 -- first is begun; a parallel is under way and both parts are begun; a local waits and its first is begun
 abbrev pub leaf_begun : Leaf → Mark
-leaf_begun nothing = done
-leaf_begun stop = waiting
-leaf_begun (emit s) = waiting
-leaf_begun (wait s) = waiting
+leaf_begun nothing = Done
+leaf_begun stop = Waiting
+leaf_begun (emit s) = Waiting
+leaf_begun (wait s) = Waiting
 
 abbrev pub begun : Tree → List Mark → List Mark
 begun (leaf n k) ms = slice_set ms n (leaf_begun k)
-begun (one n loop p) ms = slice_set ms n waiting
-begun (one n (kill s) p) ms = begun p (slice_set ms n underway)
-begun (one n (local s) p) ms = begun p (slice_set ms n waiting)
-begun (two n sequence p q) ms = begun p (slice_set ms n underway)
-begun (two n parallel p q) ms = begun q (begun p (slice_set ms n underway))
-begun (two n (when s) p q) ms = slice_set ms n waiting
+begun (one n loop p) ms = slice_set ms n Waiting
+begun (one n (kill s) p) ms = begun p (slice_set ms n UnderWay)
+begun (one n (local s) p) ms = begun p (slice_set ms n Waiting)
+begun (two n sequence p q) ms = begun p (slice_set ms n UnderWay)
+begun (two n parallel p q) ms = begun q (begun p (slice_set ms n UnderWay))
+begun (two n (when s) p q) ms = slice_set ms n Waiting
 
 -- TO IDLE a statement: it and everything inside it gets idle
 abbrev pub idled : Tree → List Mark → List Mark
-idled (leaf n k) ms = slice_set ms n idle
-idled (one n k p) ms = idled p (slice_set ms n idle)
-idled (two n k p q) ms = idled q (idled p (slice_set ms n idle))
+idled (leaf n k) ms = slice_set ms n Idle
+idled (one n k p) ms = idled p (slice_set ms n Idle)
+idled (two n k p q) ms = idled q (idled p (slice_set ms n Idle))
 
 -- OVER are: what is done, a parallel whose parts are both over, a sequence whose second is over, a when with a part that
 -- is over
@@ -70,34 +70,34 @@ over (two n k p q) ms = is_done (at ms n) || two_over k (over p ms) (over q ms)
 -- READY, by a statement's own rule; o: whether its first is over.
 -- Emit that waits; wait that waits, its signal present
 abbrev pub leaf_rule : Signals → Mark → Leaf → Bool
-leaf_rule e idle k = false
-leaf_rule e waiting nothing = false
-leaf_rule e waiting stop = false
-leaf_rule e waiting (emit s) = true
-leaf_rule e waiting (wait s) = slice_index_or e s false
-leaf_rule e underway k = false
-leaf_rule e done k = false
+leaf_rule e Idle k = false
+leaf_rule e Waiting nothing = false
+leaf_rule e Waiting stop = false
+leaf_rule e Waiting (emit s) = true
+leaf_rule e Waiting (wait s) = slice_index_or e s false
+leaf_rule e UnderWay k = false
+leaf_rule e Done k = false
 
 -- loop that waits, or whose first is over; kill whose first is over; local that waits, or is under way with its first over
 abbrev pub one_rule : Mark → One → Bool → Bool
-one_rule idle loop o = o
-one_rule waiting loop o = true
-one_rule underway loop o = o
-one_rule done loop o = o
+one_rule Idle loop o = o
+one_rule Waiting loop o = true
+one_rule UnderWay loop o = o
+one_rule Done loop o = o
 one_rule m (kill s) o = o
-one_rule idle (local s) o = false
-one_rule waiting (local s) o = true
-one_rule underway (local s) o = o
-one_rule done (local s) o = false
+one_rule Idle (local s) o = false
+one_rule Waiting (local s) o = true
+one_rule UnderWay (local s) o = o
+one_rule Done (local s) o = false
 
 -- sequence whose first is over; when that waits, its signal present
 abbrev pub two_rule : Signals → Mark → Two → Bool → Bool
 two_rule e m sequence o = o
 two_rule e m parallel o = false
-two_rule e idle (when s) o = false
-two_rule e waiting (when s) o = slice_index_or e s false
-two_rule e underway (when s) o = false
-two_rule e done (when s) o = false
+two_rule e Idle (when s) o = false
+two_rule e Waiting (when s) o = slice_index_or e s false
+two_rule e UnderWay (when s) o = false
+two_rule e Done (when s) o = false
 
 abbrev pub rule : Tree → List Mark → Signals → Bool
 rule (leaf n k) ms e = leaf_rule e (at ms n) k
@@ -106,12 +106,12 @@ rule (two n k p q) ms e = two_rule e (at ms n) k (over p ms)
 
 -- a local that waits is shut
 abbrev pub shut : Mark → One → Bool
-shut idle k = false
-shut waiting loop = false
-shut waiting (kill s) = false
-shut waiting (local s) = true
-shut underway k = false
-shut done k = false
+shut Idle k = false
+shut Waiting loop = false
+shut Waiting (kill s) = false
+shut Waiting (local s) = true
+shut UnderWay k = false
+shut Done k = false
 
 -- statement i, of the tree, is ready: its rule applies, and it does not lie inside a local that is shut
 abbrev pub ready : Tree → List Mark → Signals → ℕ → Bool
@@ -128,51 +128,51 @@ reached (two n k p q) ms i = pick (ℕ_discrete i n) true (reached p ms i || rea
 -- THE STEP of a ready statement: its marks. Loop that waits: under way, begin first. Loop with first over: idle first, wait.
 -- Kill: idle first, done. Local that waits: under way. Local with first over: idle first, done
 abbrev pub one_fired : ℕ → Mark → One → Tree → List Mark → List Mark
-one_fired n idle loop p ms = idled p (slice_set ms n waiting)
-one_fired n waiting loop p ms = begun p (slice_set ms n underway)
-one_fired n underway loop p ms = idled p (slice_set ms n waiting)
-one_fired n done loop p ms = idled p (slice_set ms n waiting)
-one_fired n m (kill s) p ms = idled p (slice_set ms n done)
-one_fired n idle (local s) p ms = ms
-one_fired n waiting (local s) p ms = slice_set ms n underway
-one_fired n underway (local s) p ms = idled p (slice_set ms n done)
-one_fired n done (local s) p ms = ms
+one_fired n Idle loop p ms = idled p (slice_set ms n Waiting)
+one_fired n Waiting loop p ms = begun p (slice_set ms n UnderWay)
+one_fired n UnderWay loop p ms = idled p (slice_set ms n Waiting)
+one_fired n Done loop p ms = idled p (slice_set ms n Waiting)
+one_fired n m (kill s) p ms = idled p (slice_set ms n Done)
+one_fired n Idle (local s) p ms = ms
+one_fired n Waiting (local s) p ms = slice_set ms n UnderWay
+one_fired n UnderWay (local s) p ms = idled p (slice_set ms n Done)
+one_fired n Done (local s) p ms = ms
 
 -- Sequence: idle first, begin second. When: under way, begin first
 abbrev pub two_fired : ℕ → Two → Tree → Tree → List Mark → List Mark
 two_fired n sequence p q ms = begun q (idled p ms)
 two_fired n parallel p q ms = ms
-two_fired n (when s) p q ms = begun p (slice_set ms n underway)
+two_fired n (when s) p q ms = begun p (slice_set ms n UnderWay)
 
 -- Emit and wait: done
 abbrev pub fire : Tree → List Mark → List Mark
-fire (leaf n k) ms = slice_set ms n done
+fire (leaf n k) ms = slice_set ms n Done
 fire (one n k p) ms = one_fired n (at ms n) k p ms
 fire (two n k p q) ms = two_fired n k p q ms
 
 -- and its signals: an emit raises its signal, a local drops its own, at both of its steps
 pub data Effect : Type 0 where
-  quiet : Effect
+  no_effect : Effect
   raises drops : ℕ → Effect
 
 abbrev pub leaf_effect : Leaf → Effect
-leaf_effect nothing = quiet
-leaf_effect stop = quiet
+leaf_effect nothing = no_effect
+leaf_effect stop = no_effect
 leaf_effect (emit s) = raises s
-leaf_effect (wait s) = quiet
+leaf_effect (wait s) = no_effect
 
 abbrev pub one_effect : One → Effect
-one_effect loop = quiet
-one_effect (kill s) = quiet
+one_effect loop = no_effect
+one_effect (kill s) = no_effect
 one_effect (local s) = drops s
 
 abbrev pub effect_of : Tree → Effect
 effect_of (leaf n k) = leaf_effect k
 effect_of (one n k p) = one_effect k
-effect_of (two n k p q) = quiet
+effect_of (two n k p q) = no_effect
 
 abbrev pub apply : Effect → Signals → Signals
-apply quiet e = e
+apply no_effect e = e
 apply (raises s) e = slice_set e s true
 apply (drops s) e = slice_set e s false
 
@@ -180,33 +180,33 @@ apply (drops s) e = slice_set e s false
 -- waits is under way and its second is begun. Sequence, parallel, loop and when under way pass the end to their live parts.
 -- Kill with its signal present idles its first and is done, else it passes the end on. Local waits and passes it on
 abbrev pub leaf_ended : ℕ → Mark → Leaf → List Mark → List Mark
-leaf_ended n idle k ms = ms
-leaf_ended n waiting nothing ms = ms
-leaf_ended n waiting stop ms = slice_set ms n done
-leaf_ended n waiting (emit s) ms = ms
-leaf_ended n waiting (wait s) ms = ms
-leaf_ended n underway k ms = ms
-leaf_ended n done k ms = ms
+leaf_ended n Idle k ms = ms
+leaf_ended n Waiting nothing ms = ms
+leaf_ended n Waiting stop ms = slice_set ms n Done
+leaf_ended n Waiting (emit s) ms = ms
+leaf_ended n Waiting (wait s) ms = ms
+leaf_ended n UnderWay k ms = ms
+leaf_ended n Done k ms = ms
 
 -- go: the end of the part
 abbrev pub one_ended : ℕ → Mark → One → Tree → (List Mark → List Mark) → List Mark → Signals → List Mark
-one_ended n idle k p go ms e = ms
-one_ended n waiting loop p go ms e = ms
-one_ended n waiting (kill s) p go ms e = ms
-one_ended n waiting (local s) p go ms e = go (slice_set ms n waiting)
-one_ended n underway loop p go ms e = go ms
-one_ended n underway (kill s) p go ms e = cond (slice_index_or e s false) (idled p (slice_set ms n done)) (go ms)
-one_ended n underway (local s) p go ms e = go (slice_set ms n waiting)
-one_ended n done k p go ms e = ms
+one_ended n Idle k p go ms e = ms
+one_ended n Waiting loop p go ms e = ms
+one_ended n Waiting (kill s) p go ms e = ms
+one_ended n Waiting (local s) p go ms e = go (slice_set ms n Waiting)
+one_ended n UnderWay loop p go ms e = go ms
+one_ended n UnderWay (kill s) p go ms e = cond (slice_index_or e s false) (idled p (slice_set ms n Done)) (go ms)
+one_ended n UnderWay (local s) p go ms e = go (slice_set ms n Waiting)
+one_ended n Done k p go ms e = ms
 
 -- o: whether the statement is over
 abbrev pub two_ended : ℕ → Mark → Two → Bool → Tree → (List Mark → List Mark) → (List Mark → List Mark) → List Mark → List Mark
-two_ended n idle k o q go go' ms = ms
-two_ended n waiting sequence o q go go' ms = ms
-two_ended n waiting parallel o q go go' ms = ms
-two_ended n waiting (when s) o q go go' ms = begun q (slice_set ms n underway)
-two_ended n underway k o q go go' ms = cond o ms (go' (go ms))
-two_ended n done k o q go go' ms = ms
+two_ended n Idle k o q go go' ms = ms
+two_ended n Waiting sequence o q go go' ms = ms
+two_ended n Waiting parallel o q go go' ms = ms
+two_ended n Waiting (when s) o q go go' ms = begun q (slice_set ms n UnderWay)
+two_ended n UnderWay k o q go go' ms = cond o ms (go' (go ms))
+two_ended n Done k o q go go' ms = ms
 
 abbrev pub ended : Tree → List Mark → Signals → List Mark
 ended (leaf n k) ms e = leaf_ended n (at ms n) k ms

@@ -8,6 +8,6 @@ pub data Run {S L : Type 0} (Ready : S → L → Type 0) (next : S → L → S) 
 abbrev pub Quiet : {S L : Type 0} (Ready : S → L → Type 0) → S → Type 0
 Quiet {S} {L} Ready s = (i : L) → ¬ (Ready s i)
 
-abbrev pub count : {L : Type 0} → ((i j : L) → Dec (i ≡ j)) → L → List L → ℕ
-count same k [] = 0
-count same k (i ∷ w) = elim (same k i) [ yes p ↦ 1 | no q ↦ 0 ] + count same k w
+abbrev pub occurrences : {L : Type 0} → ((i j : L) → Dec (i ≡ j)) → L → List L → ℕ
+occurrences same k [] = 0
+occurrences same k (i ∷ w) = elim (same k i) [ yes p ↦ 1 | no q ↦ 0 ] + occurrences same k w

@@ -8,8 +8,8 @@ use Rattle.routine.specs.Search.{lowest}
 use Rattle.routine.specs.Tree.{tree_at, contains, inside, can_end}
 use Rattle.routine.specs.Layout.{Formed}
 use Rattle.routine.specs.Meaning.{passes}
-use Rattle.rules.specs.Runs.{Run, Quiet, count}
-use Rattle.rules.specs.Rules.{Mark, idle, Signals, at, begun, over, rule, ready, fire, ended}
+use Rattle.rules.specs.Runs.{Run, Quiet, occurrences}
+use Rattle.rules.specs.Rules.{Mark, Idle, Signals, at, begun, over, rule, ready, fire, ended}
 use Rattle.rules.specs.Legal.{Legal}
 use Rattle.rules.specs.Model.{Config, Ready, stepped, lowest_ready, settled, path, enough, first_marks, total, closed, instant}
 
@@ -38,9 +38,9 @@ module _ (gs : List SignalKind) (ks : List Kind) where
   pub record OrderNeverShows : Type 0 where
     pub same : (c x y : Config) (v w : List ℕ) → Legal true ks c.0
         → Run (Ready ks) (stepped ks) c v x → Quiet (Ready ks) x → Run (Ready ks) (stepped ks) c w y → Quiet (Ready ks) y
-        → (x ≡ y) × ((i : ℕ) → count ℕ_discrete i v ≡ count ℕ_discrete i w)
+        → (x ≡ y) × ((i : ℕ) → occurrences ℕ_discrete i v ≡ occurrences ℕ_discrete i w)
     pub as_model : (c x : Config) (v : List ℕ) → Legal true ks c.0 → Run (Ready ks) (stepped ks) c v x → Quiet (Ready ks) x
-        → (x ≡ settled ks (enough ks) c) × ((i : ℕ) → count ℕ_discrete i v ≡ count ℕ_discrete i (path ks (enough ks) c))
+        → (x ≡ settled ks (enough ks) c) × ((i : ℕ) → occurrences ℕ_discrete i v ≡ occurrences ℕ_discrete i (path ks (enough ks) c))
 
   -- from legal marks no more than 4 steps for each statement are possible, and the model is quiet after them
   pub record InstantEnds : Type 0 where
@@ -65,7 +65,7 @@ module _ (gs : List SignalKind) (ks : List Kind) where
   abbrev pub TakesTime : Type 0
   TakesTime =
       (i : ℕ) (ms ns : List Mark) → i < length ks → length ms ≡ length ks → can_end (tree_at ks i) ≡ false
-      → ((j : ℕ) → contains (tree_at ks i) j ≡ true → at ms j ≡ idle)
+      → ((j : ℕ) → contains (tree_at ks i) j ≡ true → at ms j ≡ Idle)
       → InsideSteps ks i (begun (tree_at ks i) ms) ns → over (tree_at ks i) ns ≡ false
 
 module _ (gs : List SignalKind) (ks : List Kind) where

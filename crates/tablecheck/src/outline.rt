@@ -1,6 +1,6 @@
 ghost use Rattle.std.specs.Prelude.{◌≡◌, ◌<◌, ◌≤◌, ◌++◌, Some, string_bytes, OnOk};
 ghost use Rattle.routine.specs.Tree.{tree_at};
-ghost use Rattle.routine.specs.View.{kinds_of, count_of};
+ghost use Rattle.routine.specs.View.{table_kinds, count_of};
 ghost use Rattle.tablecheck.specs.Report.{statement_text, outline};
 
 use routine::{Kind, Routine};
@@ -34,7 +34,7 @@ pub(crate) fn write_outline(
     depth: u8,
 ) -> Result<(), AllocError>
     requires { depth ≤ number }
-    ensures { let ks = kinds_of routine.now.table in OnOk result (string_bytes out.new ≡ string_bytes out.old ++ outline ks depth (tree_at ks number)) }
+    ensures { let ks = table_kinds routine.now.table in OnOk result (string_bytes out.new ≡ string_bytes out.old ++ outline ks depth (tree_at ks number)) }
 {
     let kind = routine.table.kind(usize::from(number));
     let line = Line {

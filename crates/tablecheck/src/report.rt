@@ -1,6 +1,6 @@
 ghost use Rattle.std.specs.Prelude.{◌≡◌, Some};
 ghost use Rattle.routine.specs.Refusals.{SaysOrMemory};
-ghost use Rattle.routine.specs.View.{signals_of, kinds_of};
+ghost use Rattle.routine.specs.View.{table_signals, table_kinds};
 ghost use Rattle.tablecheck.specs.Report.{census_text, census, report_of};
 ghost use Rattle.tablecheck.specs.Printed.{said};
 
@@ -21,7 +21,7 @@ struct Census {
 
 impl Census {
     fn of(routine: &Routine) -> Self
-        ensures { result ≡ census (signals_of routine.now.table) (kinds_of routine.now.table) }
+        ensures { result ≡ census (table_signals routine.now.table) (table_kinds routine.now.table) }
     {
         Census {
             inputs: routine.signals(SignalKind::Input),

@@ -11,8 +11,8 @@ use Rattle.routine.specs.Meaning.{check_of}
 use Rattle.routine.proofs.Searches.{none_below}
 use Rattle.rules.specs.declared.status.Status.{Status}
 use Rattle.rules.specs.Model.{settled, path, model}
-use Rattle.count.specs.Calls.{new_state, first_stray}
-use Rattle.relay.specs.History.{Past, pasts}
+use Rattle.count.specs.Calls.{new_state, first_not_input}
+use Rattle.relay.specs.History.{Transition, trace}
 use Rattle.worked.specs.Examples.{Example, firsts, seconds, Each, told, Holds}
 use Rattle.worked.specs.Worked.{examples}
 
@@ -23,9 +23,9 @@ record Computed : Type 0 where
   few_statements : Bool
   misfit : Option ℕ
   refusal : Option Refusal
-  strays : List (Option ℕ)
+  not_inputs : List (Option ℕ)
   words : List (ℕ × Status × ℕ)
-  calls : List Past
+  calls : List Transition
 
 abbrev misfits : Example → ℕ → Bool
 misfits x i = not (fits (length x.signals) (length x.kinds) i (kind_at x.kinds i))
@@ -38,9 +38,9 @@ found x =
       few_statements = nat_le (length x.kinds) 256;
       misfit = lowest (misfits x) (length x.kinds);
       refusal = check_of x.signals x.kinds;
-      strays = map (first_stray x.signals) (firsts x.words);
+      not_inputs = map (first_not_input x.signals) (firsts x.words);
       words = map told (model x.signals x.kinds (firsts x.words));
-      calls = pasts x.signals x.kinds (new_state x.kinds) (firsts x.calls);
+      calls = trace x.signals x.kinds (new_state x.kinds) (firsts x.calls);
     }
 
 abbrev wanted : Example → Computed
@@ -51,7 +51,7 @@ wanted x =
       few_statements = true;
       misfit = None;
       refusal = x.refusal;
-      strays = map (λ word. None) (firsts x.words);
+      not_inputs = map (λ word. None) (firsts x.words);
       words = seconds x.words;
       calls = seconds x.calls;
     }
@@ -78,7 +78,7 @@ holds x e =
       few_statements = (grind (arith, n), grind (arith, m));
       formed = formed x (ap (λ (c : Computed). c.misfit) e);
       checked = ap (λ (c : Computed). c.refusal) e;
-      inputs = none_each (first_stray x.signals) (firsts x.words) (ap (λ (c : Computed). c.strays) e);
+      inputs = none_each (first_not_input x.signals) (firsts x.words) (ap (λ (c : Computed). c.not_inputs) e);
       words = ap (λ (c : Computed). c.words) e;
       calls = ap (λ (c : Computed). c.calls) e;
     }
@@ -88,5 +88,5 @@ each [] e = tt
 each (x ∷ xs) e = (holds x (grind (arith, e)), each xs (grind (arith, e)))
 
 pub all_hold : Each Holds examples
-unfolding word_set empty tree tree_at check_of settled path first_stray pasts ℕ_discrete
+unfolding word_set empty tree tree_at check_of settled path first_not_input trace ℕ_discrete
 all_hold = each examples refl

@@ -7,9 +7,9 @@ use Rattle.routine.specs.Layout.{Formed}
 use Rattle.routine.specs.Meaning.{check_of}
 use Rattle.rules.specs.declared.status.Status.{Status}
 use Rattle.rules.specs.Model.{Outcome, model}
-use Rattle.count.specs.Calls.{new_state, first_stray}
+use Rattle.count.specs.Calls.{new_state, first_not_input}
 use Rattle.relay.specs.Asked.{Asked}
-use Rattle.relay.specs.History.{Past, pasts}
+use Rattle.relay.specs.History.{Transition, trace}
 use Rattle.worked.specs.declared.worked.Summary.{Summary}
 
 pub record Example : Type 0 where
@@ -21,7 +21,7 @@ pub record Example : Type 0 where
   -- input words, one after another, each with what it comes to: the outputs, the status, the steps
   pub words : List (ℕ × (ℕ × Status × ℕ))
   -- calls on a new count, one after another, each with what it comes to
-  pub calls : List (Asked × Past)
+  pub calls : List (Asked × Transition)
 
 abbrev pub firsts : {A B : Type 0} → List (A × B) → List A
 firsts ps = map (λ p. p.0) ps
@@ -45,11 +45,11 @@ pub record Holds (x : Example) : Type 0 where
   -- the check of its meaning refuses it so, or not at all
   pub checked : check_of x.signals x.kinds ≡ x.refusal
   -- no word has a bit that is no input
-  pub inputs : Each (λ word. first_stray x.signals word ≡ None) (firsts x.words)
+  pub inputs : Each (λ word. first_not_input x.signals word ≡ None) (firsts x.words)
   -- each word comes to what is said beside it, by the plain model
   pub words : map told (model x.signals x.kinds (firsts x.words)) ≡ seconds x.words
   -- and each call, by the history of the calls
-  pub calls : pasts x.signals x.kinds (new_state x.kinds) (firsts x.calls) ≡ seconds x.calls
+  pub calls : trace x.signals x.kinds (new_state x.kinds) (firsts x.calls) ≡ seconds x.calls
 
 -- the model's outcomes, a line for each instant
 abbrev pub lines_from : ℕ → ℕ → List Outcome → List Summary

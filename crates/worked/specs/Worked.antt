@@ -4,7 +4,7 @@ use Rattle.routine.specs.declared.kinds.SignalKind.TheVariants.{Input, Output, L
 use Rattle.routine.specs.declared.kinds.Kind.TheVariants.{Nothing, Stop, Emit, Wait, Sequence, Parallel, Loop, When, Kill, Local}
 use Rattle.routine.specs.declared.refusals.Refusal.TheVariants.{EndlessLoop, AlreadyOver, NotReady}
 use Rattle.rules.specs.declared.status.Status.TheVariants.{Suspended as S, Terminated as T}
-use Rattle.rules.specs.Rules.{underway, done}
+use Rattle.rules.specs.Rules.{UnderWay, Done}
 use Rattle.relay.specs.Asked.{begin, step, close}
 use Rattle.relay.specs.History.{begins, steps, closes, refuses}
 use Rattle.worked.specs.Examples.{Example}
@@ -20,7 +20,7 @@ nothing_at_all =
       words = (0, (0, T, 0)) ∷ [];
       calls =
           (begin 0, begins 0)
-          ∷ (close, closes (record { instant = 1; outputs = 0; status = T; steps = 0 }) (done ∷ []))
+          ∷ (close, closes (record { instant = 1; outputs = 0; status = T; steps = 0 }) (Done ∷ []))
           ∷ (begin 0, refuses AlreadyOver)
           ∷ [];
     }
@@ -111,7 +111,7 @@ side_by_side =
           ∷ (step 2, refuses (NotReady 2))
           ∷ (step 1, steps 1)
           ∷ (step 2, steps 2)
-          ∷ (close, closes (record { instant = 1; outputs = 1; status = T; steps = 2 }) (underway ∷ done ∷ done ∷ []))
+          ∷ (close, closes (record { instant = 1; outputs = 1; status = T; steps = 2 }) (UnderWay ∷ Done ∷ Done ∷ []))
           ∷ [];
     }
 

@@ -1,6 +1,6 @@
 use Rattle.std.proofs.Common.{ap, ◌∙◌, rules}
 use Rattle.routine.specs.declared.checked.Routine.{Routine}
-use Rattle.routine.specs.View.{kinds_of as kinds_read, signals_of as signals_read}
+use Rattle.routine.specs.View.{table_kinds, table_signals}
 use Rattle.record.proofs.Lists.{few_kinds}
 use Rattle.count.specs.CountView.{kinds_of, signals_of, state_of}
 use Rattle.count.proofs.TakenOver.{few_signals}
@@ -21,4 +21,4 @@ returns-clause-state g c =
     let n = c.new-count.ensures in
     let h = c.hand_over-routine.ensures in
     comes_back (signals_of d) _ (kinds_of d) _ (state_of present d) _ _ _ (few_kinds d.rows.routine.table) (few_signals d.rows)
-    (sound_count g.met.A.Board.size d (search rules) (search rules)) h.record (n.signals ∙ ap (λ (r : Routine). signals_read r.table) h.routine) (n.kinds ∙ ap (λ (r : Routine). kinds_read r.table) h.routine) c.take_over.ensures.leaves
+    (sound_count g.met.A.Board.size d (search rules) (search rules)) h.record (n.signals ∙ ap (λ (r : Routine). table_signals r.table) h.routine) (n.kinds ∙ ap (λ (r : Routine). table_kinds r.table) h.routine) c.take_over.ensures.leaves

@@ -1,8 +1,8 @@
 use Rattle.std.proofs.Common.{false, refl}
-use Rattle.routine.specs.View.{kinds_of, signals_of}
+use Rattle.routine.specs.View.{table_kinds, table_signals}
 use Rattle.record.proofs.Forms.{misfit, taken_by}
 use Rattle.record.proofs.records.read.Goals as goal
 
 pub returns-in-None : goal.returns-in-None
 returns-in-None c =
-    let t = c.args.routine.now.table in taken_by (signals_of t) (kinds_of t) c.args.bytes.now false _ _ (misfit _ _ c.in-None.ensures.cases) refl refl
+    let t = c.args.routine.now.table in taken_by (table_signals t) (table_kinds t) c.args.bytes.now false _ _ (misfit _ _ c.in-None.ensures.cases) refl refl

@@ -1,6 +1,6 @@
 use Rattle.std.proofs.Common.{◌<◌, sym, ap, ◌∙◌, arith, rules, length, vec_items}
 use Rattle.routine.specs.Kinds.{marks}
-use Rattle.routine.specs.View.{kinds_of, signals_of}
+use Rattle.routine.specs.View.{table_kinds, table_signals}
 use Rattle.record.specs.Record.{contents, head_bytes, byte_at}
 use Rattle.record.specs.Taking.{taking_refusal}
 use Rattle.record.proofs.Arrays.{made}
@@ -14,7 +14,7 @@ returns-clause-bytes c =
     let h = c.args.standing.head in
     let t = c.args.standing.routine.now.table in
     let ms = marks (vec_items t.statements) in
-    let n = length (kinds_of t) in
+    let n = length (table_kinds t) in
     made _ _ (byte_at (contents n) (head_bytes h) ms) (λ i y q e. search rules) _ 0 279 c.from_fn.ensures.items
     ∙ sym (bytes_written n h ms (marks_many t) (few_kinds t))
 
@@ -23,6 +23,6 @@ returns-clause-accepted c =
     let s = c.args.standing in
     let t = s.routine.now.table in
     let w : s.head.present < 18446744073709551616 = search rules in
-    ap (taking_refusal (signals_of t) (kinds_of t)) (returns-clause-bytes c)
-    ∙ is_taken (signals_of t) (kinds_of t) s.head (marks (vec_items t.statements)) (few_kinds t) (search rules) (search rules) (omega (arith, w))
+    ap (taking_refusal (table_signals t) (table_kinds t)) (returns-clause-bytes c)
+    ∙ is_taken (table_signals t) (table_kinds t) s.head (marks (vec_items t.statements)) (few_kinds t) (search rules) (search rules) (omega (arith, w))
     s.faultless (record { many = marks_many t; each = s.legal }) s.finished

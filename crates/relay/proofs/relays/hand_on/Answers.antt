@@ -1,6 +1,6 @@
 use Rattle.std.proofs.Common.{map, rules, ap, ◌∙◌}
 use Rattle.routine.specs.declared.checked.Routine.{Routine}
-use Rattle.routine.specs.View.{kinds_of as kinds_read, signals_of as signals_read}
+use Rattle.routine.specs.View.{table_kinds, table_signals}
 use Rattle.record.proofs.Lists.{few_kinds}
 use Rattle.record.specs.State.{State}
 use Rattle.count.specs.CountView.{kinds_of, signals_of, state_of}
@@ -21,8 +21,8 @@ returns g c =
     let ds = map asked c.args.later.now in
     let h = c.hand_over-released.ensures in
     let n = c.new-count.ensures in
-    let e = n.signals ∙ ap (λ (r : Routine). signals_read r.table) h.routine in
-    let f = n.kinds ∙ ap (λ (r : Routine). kinds_read r.table) h.routine in
+    let e = n.signals ∙ ap (λ (r : Routine). table_signals r.table) h.routine in
+    let f = n.kinds ∙ ap (λ (r : Routine). table_kinds r.table) h.routine in
     let S = sound_count g.met.A.Board.size a (search rules) (search rules) in
     let k = few_kinds a.rows.routine.table in
     let m = few_signals a.rows in

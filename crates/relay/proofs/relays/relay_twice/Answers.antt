@@ -1,4 +1,4 @@
-use Rattle.routine.specs.View.{kinds_of, signals_of}
+use Rattle.routine.specs.View.{table_kinds, table_signals}
 use Rattle.relay.proofs.Alike.{told_alike, same_model}
 use Rattle.relay.proofs.relays.relay_twice.Goals as goal
 
@@ -7,5 +7,5 @@ pub returns-clause-law : goal.returns-clause-law
 returns-clause-law g c =
     let t = c.args.routine.table in
     let r = c.relay-relayed.ensures.routine in
-    told_alike (signals_of t) (kinds_of t) _ _ _ _ _ _ _ _ c.relay-relayed.ensures.model
-    (same_model (signals_of t) _ (kinds_of t) _ _ _ _ _ r.signals r.kinds c.relay-once_more.ensures.model)
+    told_alike (table_signals t) (table_kinds t) _ _ _ _ _ _ _ _ c.relay-relayed.ensures.model
+    (same_model (table_signals t) _ (table_kinds t) _ _ _ _ _ r.signals r.kinds c.relay-once_more.ensures.model)

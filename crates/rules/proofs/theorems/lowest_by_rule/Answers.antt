@@ -1,4 +1,4 @@
-use Rattle.routine.specs.View.{signals_of, kinds_of}
+use Rattle.routine.specs.View.{table_signals, table_kinds}
 use Rattle.rules.proofs.Checked.{of_routine}
 use Rattle.rules.proofs.Lowest.{lowest_by_rule}
 use Rattle.rules.proofs.theorems.lowest_by_rule.Goals as goal
@@ -6,4 +6,4 @@ use Rattle.rules.proofs.theorems.lowest_by_rule.Goals as goal
 pub returns : goal.returns
 returns c =
     let r = c.args.routine.now in
-    lowest_by_rule (signals_of r.table) (kinds_of r.table) (of_routine r)
+    lowest_by_rule (table_signals r.table) (table_kinds r.table) (of_routine r)

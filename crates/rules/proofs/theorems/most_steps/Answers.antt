@@ -1,5 +1,5 @@
 use Rattle.std.proofs.Common.{ℕ, ◌*◌, ap}
-use Rattle.routine.specs.View.{signals_of, kinds_of}
+use Rattle.routine.specs.View.{table_signals, table_kinds}
 use Rattle.rules.proofs.Checked.{of_routine}
 use Rattle.rules.proofs.Promises.{instant_ends}
 use Rattle.rules.proofs.Sums.{steps_add_up}
@@ -10,6 +10,6 @@ returns c =
     let r = c.args.routine.now in
     record {
       value = ap (λ (n : ℕ). 4 * n) c.count.ensures.value;
-      sums = steps_add_up (signals_of r.table) (kinds_of r.table) (of_routine r);
-      ends = instant_ends (signals_of r.table) (kinds_of r.table) (of_routine r);
+      sums = steps_add_up (table_signals r.table) (table_kinds r.table) (of_routine r);
+      ends = instant_ends (table_signals r.table) (table_kinds r.table) (of_routine r);
     }

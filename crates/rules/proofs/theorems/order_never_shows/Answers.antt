@@ -1,4 +1,4 @@
-use Rattle.routine.specs.View.{signals_of, kinds_of}
+use Rattle.routine.specs.View.{table_signals, table_kinds}
 use Rattle.rules.proofs.Checked.{of_routine}
 use Rattle.rules.proofs.Promises.{order_never_shows}
 use Rattle.rules.proofs.Sums.{same_outcome}
@@ -8,6 +8,6 @@ pub returns : goal.returns
 returns c =
     let r = c.args.routine.now in
     record {
-      outcome = same_outcome (signals_of r.table) (kinds_of r.table) (of_routine r);
-      order = order_never_shows (signals_of r.table) (kinds_of r.table) (of_routine r);
+      outcome = same_outcome (table_signals r.table) (table_kinds r.table) (of_routine r);
+      order = order_never_shows (table_signals r.table) (table_kinds r.table) (of_routine r);
     }

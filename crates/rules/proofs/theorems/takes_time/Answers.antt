@@ -1,4 +1,4 @@
-use Rattle.routine.specs.View.{signals_of, kinds_of}
+use Rattle.routine.specs.View.{table_signals, table_kinds}
 use Rattle.rules.proofs.Checked.{of_routine}
 use Rattle.rules.proofs.TakesTime.{what_takes_time}
 use Rattle.rules.proofs.theorems.takes_time.Goals as goal
@@ -6,4 +6,4 @@ use Rattle.rules.proofs.theorems.takes_time.Goals as goal
 pub returns : goal.returns
 returns c =
     let r = c.args.routine.now in
-    what_takes_time (signals_of r.table) (kinds_of r.table) (of_routine r)
+    what_takes_time (table_signals r.table) (table_kinds r.table) (of_routine r)

@@ -38,7 +38,7 @@ loop-turn-preserved g c =
       quiet = quiet_moved (kinds_of s) (kinds_of c.act.new.self) _ _ _ _ _ _ _ _ r.kinds (ap (λ (u : State). u.marks) c.act.ensures.leaves) (ap (λ (u : State). u.present) c.act.ensures.leaves)
           c.front_after-front.ensures.from c.front_after-front.ensures.guard
           (quiet_after (signals_of s) (kinds_of s) (checked s.rows) s.rows.guards s.rows.waiters s.rows.guarded s.rows.awaited (marks_in s.rows) (g.B.Board.present s.board) _ c.loop-turn.front.from c.loop-turn.front.guard c.in-Some.k
-          (many s.rows) i.quiet c.here.ensures c.in-Some.ensures);
+          (many s.rows) i.quiet c.own_signal_present.ensures c.in-Some.ensures);
     }
 
 pub returns-in_default-clause-leaves : goal.returns-in_default-clause-leaves

@@ -9,7 +9,7 @@ use Rattle.count.proofs.counts.Count.take_over.Goals as goal
 pub invariant_of-self : goal.invariant_of-self
 invariant_of-self g c =
     let s = sound c.args.self.now.rows c.put_all.new.self c.args.record.now (λ i. (c.type_inv.record i).fits) c.in_ok-head.field-0 _ c.in_ok-head.ensures c.put_all.ensures c.show.ensures in
-    record { legal = s.legal.each; finished = s.finished; still = s.still; within = s.within; calm = s.calm; room = s.room }
+    record { legal = s.legal.each; finished = s.finished; no_signals = s.no_signals; within = s.within; no_steps = s.no_steps; room = s.room }
 
 pub returns : goal.returns
 returns g c =

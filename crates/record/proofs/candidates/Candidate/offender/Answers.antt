@@ -1,14 +1,14 @@
 use Rattle.std.proofs.Common.{◌≡◌, ℕ, true, false, length, sym, rules}
 use Rattle.std.proofs.lemmas.Iterator.{first_from_Range}
 use borrow.Author.Tests.{tests}
-use Rattle.routine.specs.View.{kinds_of}
+use Rattle.routine.specs.View.{table_kinds}
 use Rattle.routine.proofs.Searches.{finds, lowest_by}
 use Rattle.record.specs.Taking.{breaks}
 use Rattle.record.proofs.candidates.Candidate.offender.Goals as goal
 
 pub returns : goal.returns
 returns c =
-    let ks = kinds_of c.args.self.now.routine.now.table in
+    let ks = table_kinds c.args.self.now.routine.now.table in
     let P = breaks ks c.args.phase c.args.self.now.marks.now in
     lowest_by P
     (finds (λ i b. P i ≡ b) _ (length ks) c.find.result c.count.ensures.value

@@ -2,19 +2,19 @@ use Rattle.std.proofs.Common.{◌≡◌, ℕ, Bool, true, false, not, ◌&&◌, 
 use Rattle.std.proofs.lemmas.Iterator.{first_from_Range}
 use borrow.Author.Tests.{tests}
 use Rattle.count.specs.CountView.{signals_of}
-use Rattle.count.specs.Calls.{stray, first_stray}
+use Rattle.count.specs.Calls.{is_not_input, first_not_input}
 use Rattle.routine.proofs.Searches.{finds, lowest_by}
 use Rattle.routine.specs.declared.kinds.SignalKind.TheVariants.{Local}
 use Rattle.routine.specs.Meaning.{is_input}
 use Rattle.count.proofs.Shown.{no_bit, lowest_longer}
-use Rattle.count.proofs.counts.Count.stray.Goals as goal
+use Rattle.count.proofs.counts.Count.first_not_input.Goals as goal
 
 pub returns : goal.returns
-unfolding first_stray
+unfolding first_not_input
 returns g c =
     let w = c.args.word in
     let gs = signals_of c.args.self.now in
-    let P = stray gs w in
+    let P = is_not_input gs w in
     let n = c.width.result in
     lowest_by P
     (finds (λ s b. P s ≡ b) n n c.find.result refl
