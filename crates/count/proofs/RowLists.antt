@@ -1,6 +1,8 @@
 -- rows written, as lists
-use Rattle.std.proofs.Common.{◌≡◌, ℕ, ◌+◌, ◌<◌, ◌≤◌, true, List, length, vec_items, vec_len, get_or, set, slice_set, take, refl, sym, ap, ◌∙◌, subst, ext_get_or, arith}
-use Rattle.std.proofs.lemmas.List.{map-set, set-get_or, get_or-map, get_or-take, length-take-le, get_or-set_same, get_or-set_other}
+use Rattle.std.proofs.Common.{◌≡◌, ℕ, ◌+◌, ◌<◌, ◌≤◌, true, List, length, vec_items, vec_len, get_or}
+use Rattle.std.proofs.Common.{set, slice_set, take, refl, sym, ap, ◌∙◌, subst, ext_get_or, arith}
+use Rattle.std.proofs.lemmas.List.{map-set, set-get_or, get_or-map, get_or-take, length-take-le}
+use Rattle.std.proofs.lemmas.List.{get_or-set_same, get_or-set_other}
 use native.Mathlib.Decide.{ℕ_discrete}
 use Rattle.routine.specs.declared.kinds.Statement.{Statement}
 use Rattle.routine.specs.declared.kinds.SignalKind.{SignalKind}
@@ -15,19 +17,23 @@ use Rattle.record.proofs.Lists.{marks_length}
 use Rattle.count.specs.declared.rows.Rows.{Rows}
 use Rattle.count.specs.View.{kinds_in, signals_in, marks_in, count_in, Marked}
 
-pub kinds_kept : (ss : List Statement) (i : ℕ) (old new : Statement) → i < length ss → old ≡ get_or ss i old → new.kind ≡ old.kind → kinds (set ss i new) ≡ kinds ss
+pub kinds_kept : (ss : List Statement) (i : ℕ) (old new : Statement) → i < length ss
+    → old ≡ get_or ss i old → new.kind ≡ old.kind → kinds (set ss i new) ≡ kinds ss
 kinds_kept ss i old new l o e =
     map-set (λ (r : Statement). r.kind) ss i new
-    ∙ ap (set (kinds ss) i) (e ∙ ap (λ (r : Statement). r.kind) o ∙ sym (get_or-map (λ (r : Statement). r.kind) ss i old old.kind l))
+    ∙ ap (set (kinds ss) i) (e ∙ ap (λ (r : Statement). r.kind) o
+    ∙ sym (get_or-map (λ (r : Statement). r.kind) ss i old old.kind l))
     ∙ set-get_or (kinds ss) i old.kind
 
-pub marks_set : (ss : List Statement) (i : ℕ) (new : Statement) (m : Mark) → new.mark ≡ m → marks (set ss i new) ≡ set (marks ss) i m
+pub marks_set : (ss : List Statement) (i : ℕ) (new : Statement) (m : Mark) → new.mark ≡ m
+    → marks (set ss i new) ≡ set (marks ss) i m
 marks_set ss i new m e = map-set (λ (r : Statement). r.mark) ss i new ∙ ap (set (marks ss) i) e
 
 pub formed_kept : (g : ℕ) (ks ls : List Kind) → ls ≡ ks → Formed g ks → Formed g ls
 formed_kept g ks ls e f = subst (Formed g) (sym e) f
 
-pub passes_kept : (gs : List SignalKind) (ks ls : List Kind) → ls ≡ ks → passes gs ks ≡ true → passes gs ls ≡ true
+pub passes_kept : (gs : List SignalKind) (ks ls : List Kind) → ls ≡ ks → passes gs ks ≡ true
+    → passes gs ls ≡ true
 passes_kept gs ks ls e f = ap (passes gs) e ∙ f
 
 pub guards_kept : (vs : List ℕ) (ks ls : List Kind) → ls ≡ ks → Guards ks vs → Guards ls vs
@@ -48,21 +54,32 @@ pub record Filled (ms : List Mark) (t u : Rows) (i : ℕ) : Type 0 where
   pub filled : (k : ℕ) → k < i → get_or (marks_in u) k Idle ≡ get_or ms k Idle
 
 pub filled_none : (ms : List Mark) (t : Rows) → Filled ms t t 0
-filled_none ms t = record { kinds = refl; signals = refl; len = refl; filled = λ k l. absurd (omega arith) }
+filled_none ms t = record {
+  kinds = refl;
+  signals = refl;
+  len = refl;
+  filled = λ k l. absurd (omega arith);
+}
 
-pub filled_more : (ms : List Mark) (t u v : Rows) (i : ℕ) (m : Mark) → i < count_in t → m ≡ get_or ms i Idle → Filled ms t u i → Marked u v (slice_set (marks_in u) i m) → Filled ms t v (i + 1)
+pub filled_more : (ms : List Mark) (t u v : Rows) (i : ℕ) (m : Mark) → i < count_in t
+    → m ≡ get_or ms i Idle → Filled ms t u i → Marked u v (slice_set (marks_in u) i m)
+    → Filled ms t v (i + 1)
 filled_more ms t u v i m l e f p =
     record {
       kinds = p.kinds ∙ f.kinds;
       signals = p.signals ∙ f.signals;
       len = p.len ∙ f.len;
       filled = λ k b. ap (λ xs. get_or xs k Idle) p.marks ∙ elim (ℕ_discrete k i) [
-        | yes x ↦ ap (λ (j : ℕ). get_or (slice_set (marks_in u) i m) j Idle) x ∙ get_or-set_same (marks_in u) i m Idle (let n = rows_many u in let c = f.len in omega arith) ∙ e ∙ sym (ap (λ (j : ℕ). get_or ms j Idle) x)
+        | yes x ↦ ap (λ (j : ℕ). get_or (slice_set (marks_in u) i m) j Idle) x
+            ∙ get_or-set_same (marks_in u) i m Idle
+            (let n = rows_many u in let c = f.len in omega arith) ∙ e
+            ∙ sym (ap (λ (j : ℕ). get_or ms j Idle) x)
         | no d ↦ get_or-set_other (marks_in u) i k m Idle d ∙ f.filled k (omega arith)
       ];
     }
 
-pub filled_all : (ms : List Mark) (t u : Rows) → count_in t ≤ length ms → Filled ms t u (count_in t) → Marked t u (take (count_in t) ms)
+pub filled_all : (ms : List Mark) (t u : Rows) → count_in t ≤ length ms → Filled ms t u (count_in t)
+    → Marked t u (take (count_in t) ms)
 filled_all ms t u l f =
     let n = rows_many u in
     let m : length (take (count_in t) ms) ≡ count_in t = length-take-le (count_in t) ms l in
@@ -70,5 +87,7 @@ filled_all ms t u l f =
       kinds = f.kinds;
       signals = f.signals;
       len = f.len;
-      marks = ext_get_or Idle (marks_in u) (take (count_in t) ms) (n ∙ f.len ∙ sym m) (λ k b. let c = f.len in let d : k < count_in t = omega arith in f.filled k d ∙ sym (get_or-take (count_in t) ms k Idle d));
+      marks = ext_get_or Idle (marks_in u) (take (count_in t) ms) (n ∙ f.len ∙ sym m)
+          (λ k b. let c = f.len in let d : k < count_in t = omega arith in
+          f.filled k d ∙ sym (get_or-take (count_in t) ms k Idle d));
     }

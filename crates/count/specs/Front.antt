@@ -1,8 +1,11 @@
--- where the search for the lowest ready statement may go on after a step: from its front, a number below which no statement's
--- own rule applies, but maybe that of one, the guard of the statement that was stepped last
-use Rattle.std.specs.Prelude.{◌≡◌, ℕ, ◌<◌, ◌≤◌, min, Bool, false, cond, ◌⊎◌, List, length, slice_index_or, slice_set}
+-- where the search for the lowest ready statement may go on after a step: from its front, a number
+-- below which no statement's own rule applies, but maybe that of one, the guard of the statement
+-- that was stepped last
+use Rattle.std.specs.Prelude.{◌≡◌, ℕ, ◌<◌, ◌≤◌, min, Bool, false, cond, ◌⊎◌, List, length}
+use Rattle.std.specs.Prelude.{slice_index_or, slice_set}
 use Rattle.routine.specs.declared.kinds.Kind.{Kind}
-use Rattle.routine.specs.Kinds.{nothing, stop, emit, wait, loop, kill, local, sequence, parallel, when, Shape, no_part, one_part, two_parts, shape_at}
+use Rattle.routine.specs.Kinds.{nothing, stop, emit, wait, loop, kill, local, sequence, parallel}
+use Rattle.routine.specs.Kinds.{when, Shape, no_part, one_part, two_parts, shape_at}
 use Rattle.routine.specs.Tree.{tree_at}
 use Rattle.rules.specs.Rules.{Mark, Signals, rule}
 
@@ -26,11 +29,13 @@ OverBy (two_parts sequence p q) a = a ≡ q
 OverBy (two_parts parallel p q) a = (a ≡ p) ⊎ (a ≡ q)
 OverBy (two_parts (when s) p q) a = (a ≡ p) ⊎ (a ≡ q)
 
--- the guard of a statement is the nearest one above it that looks at whether a part around it is over, if there is one: a
--- loop, kill or local, or a sequence of which that part is the first
+-- the guard of a statement is the nearest one above it that looks at whether a part around it is
+-- over, if there is one: a loop, kill or local, or a sequence of which that part is the first
 abbrev pub Guards : List Kind → List ℕ → Type 0
 Guards ks vs =
-    (i : ℕ) → i < length ks → (a : ℕ) → (LooksAt (shape_at ks i) a → entry vs a ≡ i) × (OverBy (shape_at ks i) a → entry vs a ≡ entry vs i)
+    (i : ℕ) → i < length ks → (a : ℕ)
+    → (LooksAt (shape_at ks i) a → entry vs a ≡ i)
+    × (OverBy (shape_at ks i) a → entry vs a ≡ entry vs i)
 
 -- a wait or a when of signal s
 abbrev pub Awaits : Shape → ℕ → Type 0
@@ -47,8 +52,9 @@ Awaits (two_parts (when t) a b) s = s ≡ t
 abbrev pub Waiters : List Kind → List ℕ → Type 0
 Waiters ks ws = (i : ℕ) → i < length ks → (s : ℕ) → Awaits (shape_at ks i) s → entry ws s ≤ i
 
--- after the step of statement k: b, the part that k began, k itself for a loop or a local, or the lowest that awaits what k
--- raised; h: whether the signal of k was present before, so that raising it wakes nothing
+-- after the step of statement k: b, the part that k began, k itself for a loop or a local, or the
+-- lowest that awaits what k raised; h: whether the signal of k was present before, so that raising
+-- it wakes nothing
 abbrev pub front_after : Shape → List ℕ → Bool → ℕ → ℕ → ℕ
 front_after (no_part nothing) ws h b k = b
 front_after (no_part stop) ws h b k = b

@@ -1,8 +1,11 @@
 -- the rules as the code takes them: with the presence of a statement's own signal
 use Rattle.std.specs.Prelude.{Bool, true, false, List, slice_index_or}
-use Rattle.rules.specs.Rules.{Mark, Idle, Waiting, UnderWay, Done, Leaf, nothing, stop, emit, wait, One, loop, kill, local, Two, sequence, parallel, when, Tree, leaf, one, two}
+use Rattle.rules.specs.Rules.{Mark, Idle, Waiting, UnderWay, Done, Leaf, nothing, stop, emit, wait}
+use Rattle.rules.specs.Rules.{One, loop, kill, local, Two, sequence, parallel, when, Tree, leaf}
+use Rattle.rules.specs.Rules.{one, two}
 use Rattle.routine.specs.declared.kinds.Kind.{Kind}
-use Rattle.routine.specs.declared.kinds.Kind.TheVariants.{Nothing, Stop, Emit, Wait, Sequence, Parallel, Loop, When, Kill, Local}
+use Rattle.routine.specs.declared.kinds.Kind.TheVariants.{Nothing, Stop, Emit, Wait, Sequence}
+use Rattle.routine.specs.declared.kinds.Kind.TheVariants.{Parallel, Loop, When, Kill, Local}
 use Rattle.rules.specs.Rules.{Signals, at, over, one_rule, Effect, no_effect, raises, drops}
 
 -- the statement's own signal is present

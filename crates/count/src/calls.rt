@@ -5,8 +5,11 @@ ghost use Rattle.rules.specs.Model.{outputs_of, status_of};
 ghost use Rattle.record.specs.Answers.{answer};
 ghost use Rattle.record.specs.Phases.{is_open};
 ghost use Rattle.count.specs.View.{marks_in, count_in, tree_in};
-ghost use Rattle.count.specs.Calls.{new_state, is_not_input, first_not_input, begin_refusal, step_refusal, step_state, close_refusal, closing, close_state, shown_out};
-ghost use Rattle.count.specs.CountView.{kinds_of, signals_of, state_of, SameRoutine, Begins, Steps, Closes};
+ghost use Rattle.count.specs.Calls.{new_state, is_not_input, first_not_input, begin_refusal};
+ghost use Rattle.count.specs.Calls.{step_refusal, step_state, close_refusal, closing, close_state};
+ghost use Rattle.count.specs.Calls.{shown_out};
+ghost use Rattle.count.specs.CountView.{kinds_of, signals_of, state_of, SameRoutine, Begins, Steps};
+ghost use Rattle.count.specs.CountView.{Closes};
 
 use crate::answers::Closing;
 use crate::counts::Count;
@@ -53,9 +56,11 @@ impl<B: Board> Count<B> {
     }
 
     fn may_begin(&self, word: u64) -> Result<(), Refusal>
-        ensures room { OnOk result ((self.now.closed < 4294967295) × (is_open self.now.phase ≡ false)) }
+        ensures room { OnOk result
+            ((self.now.closed < 4294967295) × (is_open self.now.phase ≡ false)) }
         ensures inputs { OnOk result (first_not_input (signals_of self.now) word ≡ None) }
-        ensures why { result ≡ answer (begin_refusal (signals_of self.now) (state_of B.present self.now) word) tt }
+        ensures why { result ≡ answer
+            (begin_refusal (signals_of self.now) (state_of B.present self.now) word) tt }
     {
         match self.phase {
             Phase::Open => Err(Refusal::AlreadyOpen),
@@ -82,8 +87,12 @@ impl<B: Board> Count<B> {
     }
 
     fn may_step(&self, k: usize) -> Result<(), Refusal>
-        ensures can { OnOk result ((is_open self.now.phase ≡ true) × (ready (tree_in self.now.rows 0) (marks_in self.now.rows) (B.present self.now.board) k ≡ true)) }
-        ensures why { result ≡ answer (step_refusal (kinds_of self.now) (state_of B.present self.now) k) tt }
+        ensures can { OnOk result
+            ((is_open self.now.phase ≡ true)
+            × (ready (tree_in self.now.rows 0) (marks_in self.now.rows) (B.present self.now.board) k
+            ≡ true)) }
+        ensures why { result ≡ answer
+            (step_refusal (kinds_of self.now) (state_of B.present self.now) k) tt }
     {
         if self.phase != Phase::Open {
             return Err(Refusal::NotOpenToStep);
@@ -100,8 +109,10 @@ impl<B: Board> Count<B> {
     // The step of statement k, which is ready.
     pub(crate) fn act(&mut self, k: usize)
         requires live { is_open self.old.phase ≡ true }
-        requires ready { ready (tree_in self.old.rows 0) (marks_in self.old.rows) (B.present self.old.board) k ≡ true }
-        ensures leaves { state_of B.present self.new ≡ step_state (kinds_of self.old) (state_of B.present self.old) k }
+        requires ready { ready (tree_in self.old.rows 0) (marks_in self.old.rows)
+            (B.present self.old.board) k ≡ true }
+        ensures leaves { state_of B.present self.new
+            ≡ step_state (kinds_of self.old) (state_of B.present self.old) k }
         ensures routine { SameRoutine self.old self.new }
     {
         let kind = self.rows.kind(k);
@@ -154,7 +165,8 @@ impl<B: Board> Count<B> {
 
     fn may_close(&self) -> Result<(), Refusal>
         ensures live { OnOk result (is_open self.now.phase ≡ true) }
-        ensures why { result ≡ answer (close_refusal (kinds_of self.now) (state_of B.present self.now)) tt }
+        ensures why { result ≡ answer
+            (close_refusal (kinds_of self.now) (state_of B.present self.now)) tt }
     {
         if self.phase != Phase::Open {
             return Err(Refusal::NotOpenToClose);
@@ -168,8 +180,10 @@ impl<B: Board> Count<B> {
     // Ends the instant.
     pub(crate) fn end_instant(&mut self) -> Closing
         requires { is_open self.old.phase ≡ true }
-        ensures answers { result ≡ closing (signals_of self.old) (kinds_of self.old) (state_of B.present self.old) }
-        ensures leaves { state_of B.present self.new ≡ close_state (kinds_of self.old) (state_of B.present self.old) }
+        ensures answers { result
+            ≡ closing (signals_of self.old) (kinds_of self.old) (state_of B.present self.old) }
+        ensures leaves { state_of B.present self.new
+            ≡ close_state (kinds_of self.old) (state_of B.present self.old) }
         ensures routine { SameRoutine self.old self.new }
     {
         let closing = Closing {

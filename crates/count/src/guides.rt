@@ -27,7 +27,8 @@ fn guard_parts(guards: &mut [u8; 256], i: usize, kind: Kind)
     }
 }
 
-// The guard of each statement, which is the one above it that its step can make ready; 0 where there is none.
+// The guard of each statement, which is the one above it that its step can make ready; 0 where
+// there is none.
 pub(crate) fn guards_of(routine: &Routine) -> [u8; 256]
     ensures { Guards (table_kinds routine.now.table) result }
 {

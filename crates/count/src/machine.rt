@@ -113,7 +113,8 @@ impl Rows {
         }
     }
 
-    // Does the rule of statement i apply, where `own_signal_present` says whether its signal is present?
+    // Does the rule of statement i apply, where `own_signal_present` says whether its signal is
+    // present?
     pub(crate) fn applies(&self, i: usize, own_signal_present: bool) -> bool
         ensures { result ≡ applies (tree_in self.now i) (marks_in self.now) own_signal_present }
     {
@@ -159,7 +160,8 @@ impl Rows {
 
     // The end of the instant, down from statement i; `present` has the present signals.
     pub(crate) fn end(&mut self, i: usize, present: &[bool])
-        ensures { Marked self.old self.new (ended (tree_in self.old i) (marks_in self.old) present.now) }
+        ensures { Marked self.old self.new
+            (ended (tree_in self.old i) (marks_in self.old) present.now) }
     {
         match (self.kind(i), self.mark(i)) {
             (Kind::Stop, Mark::Waiting) => self.put(i, Mark::Done),

@@ -17,8 +17,10 @@ impl<B: Board> Count<B> {
     fn settle<T: Tracer>(&mut self, tracer: &mut T) -> usize
         requires live { is_open self.old.phase ≡ true }
         requires fresh { self.old.steps ≡ 0 }
-        ensures leaves { state_of B.present self.new ≡ settled_state (kinds_of self.old) (state_of B.present self.old) }
-        ensures told { Extends (T.trace tracer.old) (T.trace tracer.new) (steps_from (kinds_of self.old) (state_of B.present self.old)) }
+        ensures leaves { state_of B.present self.new
+            ≡ settled_state (kinds_of self.old) (state_of B.present self.old) }
+        ensures told { Extends (T.trace tracer.old) (T.trace tracer.new)
+            (steps_from (kinds_of self.old) (state_of B.present self.old)) }
         ensures turns { result ≡ (state_of B.present self.new).steps }
         ensures routine { SameRoutine self.old self.new }
     {
@@ -39,8 +41,12 @@ impl<B: Board> Count<B> {
     // A reaction that tells the tracer of each of its turns: the statement that it steps.
     pub fn react_traced<T: Tracer>(&mut self, word: u64, tracer: &mut T) -> Result<Closing, Refusal>
         ensures reacts { Reacts B.present self.old self.new word result }
-        ensures told { IfOk result (λ closing. Extends (T.trace tracer.old) (T.trace tracer.new) (steps_from (kinds_of self.old) (begin_state (state_of B.present self.old) word))) }
-        ensures turns { IfOk result (λ closing. length (steps_from (kinds_of self.old) (begin_state (state_of B.present self.old) word)) ≡ closing.steps) }
+        ensures told { IfOk result
+            (λ closing. Extends (T.trace tracer.old) (T.trace tracer.new)
+            (steps_from (kinds_of self.old) (begin_state (state_of B.present self.old) word))) }
+        ensures turns { IfOk result
+            (λ closing. length (steps_from (kinds_of self.old)
+            (begin_state (state_of B.present self.old) word)) ≡ closing.steps) }
         ensures refused { IfErr result (λ _. tracer.new ≡ tracer.old) }
     {
         self.begin(word)?;
@@ -51,7 +57,8 @@ impl<B: Board> Count<B> {
         Ok(closing)
     }
 
-    // A whole instant: begins with the word, steps the lowest ready statement until none is ready, and closes.
+    // A whole instant: begins with the word, steps the lowest ready statement until none is ready,
+    // and closes.
     pub fn react(&mut self, word: u64) -> Result<Closing, Refusal>
         ensures { Reacts B.present self.old self.new word result }
     {

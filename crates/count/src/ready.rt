@@ -32,22 +32,28 @@ impl<B: Board> Count<B> {
 
     // Does the rule of statement i apply?
     pub(crate) fn rule_applies(&self, i: usize) -> bool
-        ensures { result ≡ rule (tree_in self.now.rows i) (marks_in self.now.rows) (B.present self.now.board) }
+        ensures { result ≡ rule (tree_in self.now.rows i) (marks_in self.now.rows)
+            (B.present self.now.board) }
     {
         self.rows.applies(i, self.own_signal_present(i))
     }
 
     // Does the guard lie below the front, and its rule apply?
     fn guard_applies(&self, front: Front) -> bool
-        ensures { result ≡ (nat_lt front.guard front.from && rule (tree_in self.now.rows front.guard) (marks_in self.now.rows) (B.present self.now.board)) }
+        ensures { result ≡ (nat_lt front.guard front.from
+            && rule (tree_in self.now.rows front.guard) (marks_in self.now.rows)
+            (B.present self.now.board)) }
     {
         front.guard < front.from && self.rule_applies(front.guard)
     }
 
     // The lowest ready statement.
     pub(crate) fn ready_from(&self, front: Front) -> Option<usize>
-        requires { QuietBelow (kinds_of self.now) (marks_in self.now.rows) (B.present self.now.board) front.from front.guard }
-        ensures { result ≡ lowest (ready (tree_in self.now.rows 0) (marks_in self.now.rows) (B.present self.now.board)) (length (kinds_of self.now)) }
+        requires { QuietBelow (kinds_of self.now) (marks_in self.now.rows)
+            (B.present self.now.board) front.from front.guard }
+        ensures { result ≡ lowest
+            (ready (tree_in self.now.rows 0) (marks_in self.now.rows) (B.present self.now.board))
+            (length (kinds_of self.now)) }
     {
         if self.guard_applies(front) {
             return Some(front.guard);
@@ -57,7 +63,8 @@ impl<B: Board> Count<B> {
 
     // Is statement k, which lies inside statement i or is it, ready?
     pub(crate) fn is_ready_inside(&self, i: usize, k: usize) -> bool
-        ensures { result ≡ ready (tree_in self.now.rows i) (marks_in self.now.rows) (B.present self.now.board) k }
+        ensures { result ≡ ready (tree_in self.now.rows i) (marks_in self.now.rows)
+            (B.present self.now.board) k }
     {
         let kind = self.rows.kind(i);
         if k == i {

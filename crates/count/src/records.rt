@@ -9,7 +9,8 @@ use record::{Head, Phase, Saved, Standing};
 use routine::{Refusal, Routine};
 use signals::Board;
 
-// What a count that was handed over leaves behind: its routine, with the marks that it had, and its board.
+// What a count that was handed over leaves behind: its routine, with the marks that it had, and its
+// board.
 #[derive(Debug, Drop)]
 pub struct Released<B> {
     pub routine: Routine,
@@ -20,7 +21,8 @@ pub struct Released<B> {
 impl<B: Board> Count<B> {
     // The word of the present signals.
     fn present_word(&self) -> u64
-        ensures { result ≡ word_from (λ s. slice_index_or (B.present self.now.board) s false) (length (signals_of self.now)) 0 }
+        ensures { result ≡ word_from (λ s. slice_index_or (B.present self.now.board) s false)
+            (length (signals_of self.now)) 0 }
     {
         words::word_of(self.signals(), |s| self.is_there(s))
     }
@@ -41,7 +43,8 @@ impl<B: Board> Count<B> {
     }
 
     fn standing(&self) -> Standing<'_>
-        ensures head { result.head ≡ head_of (length (signals_of self.now)) (state_of B.present self.now) }
+        ensures head { result.head
+            ≡ head_of (length (signals_of self.now)) (state_of B.present self.now) }
         ensures routine { result.routine.now ≡ self.now.rows.routine }
     {
         Standing {
@@ -50,9 +53,12 @@ impl<B: Board> Count<B> {
         }
     }
 
-    // Writes the count's record; the count is used up, and its routine and its board are given back as they are.
+    // Writes the count's record; the count is used up, and its routine and its board are given back
+    // as they are.
     pub fn hand_over(self, place: &mut [u8; 279]) -> Released<B>
-        ensures record { place.new ≡ record_of (length (signals_of self)) (length (kinds_of self)) (state_of B.present self) }
+        ensures record { place.new
+            ≡ record_of (length (signals_of self)) (length (kinds_of self))
+            (state_of B.present self) }
         ensures board { result.board ≡ self.board }
         ensures routine { result.routine ≡ self.rows.routine }
     {

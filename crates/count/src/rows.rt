@@ -5,16 +5,16 @@ ghost use Rattle.count.specs.Front.{entry, Guards, Waiters, front_after};
 use crate::guides::{guards_of, waiters_of};
 use routine::{Kind, Routine};
 
-// Where the search for the lowest ready statement goes on: below `from` no statement's own rule applies, but maybe that of
-// `guard`.
+// Where the search for the lowest ready statement goes on: below `from` no statement's own rule
+// applies, but maybe that of `guard`.
 #[derive(Clone, Copy, Debug)]
 pub(crate) struct Front {
     pub(crate) from: usize,
     pub(crate) guard: usize,
 }
 
-// The statements of a routine with their marks, and what guides the search for the lowest ready one: the plain inside of a
-// count.
+// The statements of a routine with their marks, and what guides the search for the lowest ready
+// one: the plain inside of a count.
 #[derive(Debug, Drop)]
 pub(crate) struct Rows {
     pub(crate) routine: Routine,
@@ -39,7 +39,8 @@ impl Rows {
         }
     }
 
-    // The statement above i that its step can make ready; 0 where there is none, which costs a look and no more.
+    // The statement above i that its step can make ready; 0 where there is none, which costs a look
+    // and no more.
     fn guard(&self, i: usize) -> usize
         ensures { result ≡ entry self.now.guards i }
     {
@@ -55,10 +56,12 @@ impl Rows {
             .map_or(0, |waiter| usize::from(*waiter))
     }
 
-    // From where on a rule can apply after the step of statement k that did not; before it, none below b applies but maybe
-    // that of k, and `own_signal_present` says whether the signal of k was present.
+    // From where on a rule can apply after the step of statement k that did not; before it, none
+    // below b applies but maybe that of k, and `own_signal_present` says whether the signal of k
+    // was present.
     fn from_after(&self, b: usize, k: usize, own_signal_present: bool) -> usize
-        ensures { result ≡ front_after (shape_at (kinds_in self.now) k) self.now.waiters own_signal_present b k }
+        ensures { result ≡ front_after
+            (shape_at (kinds_in self.now) k) self.now.waiters own_signal_present b k }
     {
         match self.kind(k) {
             Kind::Loop { .. } | Kind::Local { .. } => k,
@@ -76,7 +79,9 @@ impl Rows {
 
     // The front after the step of statement k, the lowest ready one, where it was `front` before.
     pub(crate) fn front_after(&self, front: Front, k: usize, own_signal_present: bool) -> Front
-        ensures from { result.from ≡ front_after (shape_at (kinds_in self.now) k) self.now.waiters own_signal_present (max front.from k) k }
+        ensures from { result.from
+            ≡ front_after (shape_at (kinds_in self.now) k) self.now.waiters own_signal_present
+            (max front.from k) k }
         ensures guard { result.guard ≡ entry self.now.guards k }
     {
         Front {

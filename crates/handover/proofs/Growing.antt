@@ -1,5 +1,6 @@
 -- events written one after another
-use Rattle.std.proofs.Common.{◌≡◌, ℕ, ◌+◌, ◌<◌, ◌≤◌, List, [], ◌∷◌, ◌++◌, map, length, drop, get_or, append_assoc, refl, sym, ap, ap₂, ◌∙◌, subst, string_bytes, vec_items}
+use Rattle.std.proofs.Common.{◌≡◌, ℕ, ◌+◌, ◌<◌, ◌≤◌, List, [], ◌∷◌, ◌++◌, map, length, drop, get_or}
+use Rattle.std.proofs.Common.{append_assoc, refl, sym, ap, ap₂, ◌∙◌, subst, string_bytes, vec_items}
 use Rattle.std.proofs.lemmas.List.{append-nil, drop_more, at_drop_all}
 use Rattle.std.proofs.lemmas.Grind.{flat_map-append}
 use Rattle.std.specs.List.{flat_map}
@@ -13,43 +14,65 @@ use Rattle.handover.specs.Story.{handed_text}
 use Rattle.handover.specs.Telling.{Grows, Tells}
 
 module _ (n : ℕ) where
-  -- what is written, and what is still to be written of the events ps, is what stood there and then all of qs
+  -- what is written, and what is still to be written of the events ps, is what stood there and then
+  -- all of qs
   pub record Growing (old so_far : Telling) (qs ps : List Transition) : Type 0 where
-    pub text : string_bytes so_far.text ++ told_lines (vec_items so_far.stepped) ps ≡ string_bytes old.text ++ told_lines (vec_items old.stepped) qs
-    pub instants : string_bytes so_far.instants ++ flat_map instant_line (closed_instants n (vec_items so_far.stepped) ps)
-        ≡ string_bytes old.instants ++ flat_map instant_line (closed_instants n (vec_items old.stepped) qs)
+    pub text : string_bytes so_far.text ++ told_lines (vec_items so_far.stepped) ps
+        ≡ string_bytes old.text ++ told_lines (vec_items old.stepped) qs
+    pub instants : string_bytes so_far.instants
+        ++ flat_map instant_line (closed_instants n (vec_items so_far.stepped) ps)
+        ≡ string_bytes old.instants
+        ++ flat_map instant_line (closed_instants n (vec_items old.stepped) qs)
     pub stepped : left_open (vec_items so_far.stepped) ps ≡ left_open (vec_items old.stepped) qs
 
   pub growing_none : (t : Telling) (ps : List Transition) → Growing t t ps ps
   growing_none t ps = record { text = refl; instants = refl; stepped = refl }
 
-  growing_more : (old so_far next : Telling) (qs ps : List Transition) (p : Transition) → Growing old so_far qs (p ∷ ps)
+  growing_more : (old so_far next : Telling) (qs ps : List Transition) (p : Transition)
+      → Growing old so_far qs (p ∷ ps)
       → string_bytes next.text ≡ string_bytes so_far.text ++ told_line (vec_items so_far.stepped) p
-      → string_bytes next.instants ≡ string_bytes so_far.instants ++ flat_map instant_line (closed_by n (vec_items so_far.stepped) p)
+      → string_bytes next.instants
+      ≡ string_bytes so_far.instants
+      ++ flat_map instant_line (closed_by n (vec_items so_far.stepped) p)
       → vec_items next.stepped ≡ stepped_then (vec_items so_far.stepped) p → Growing old next qs ps
   growing_more old so_far next qs ps p h a b c =
       let v = vec_items so_far.stepped in
       let w = stepped_then v p in
       record {
-        text = ap₂ (λ t u. t ++ told_lines u ps) a c ∙ append_assoc (string_bytes so_far.text) (told_line v p) (told_lines w ps) ∙ h.text;
+        text = ap₂ (λ t u. t ++ told_lines u ps) a c
+            ∙ append_assoc (string_bytes so_far.text) (told_line v p) (told_lines w ps) ∙ h.text;
         instants = ap₂ (λ t u. t ++ flat_map instant_line (closed_instants n u ps)) b c
-            ∙ append_assoc (string_bytes so_far.instants) (flat_map instant_line (closed_by n v p)) (flat_map instant_line (closed_instants n w ps))
-            ∙ ap (λ t. string_bytes so_far.instants ++ t) (sym (flat_map-append instant_line (closed_by n v p) (closed_instants n w ps))) ∙ h.instants;
+            ∙ append_assoc (string_bytes so_far.instants) (flat_map instant_line (closed_by n v p))
+            (flat_map instant_line (closed_instants n w ps))
+            ∙ ap (λ t. string_bytes so_far.instants ++ t)
+            (sym (flat_map-append instant_line (closed_by n v p) (closed_instants n w ps)))
+            ∙ h.instants;
         stepped = ap (λ u. left_open u ps) c ∙ h.stepped;
       }
 
   -- the event at place i of the code's list
-  pub growing_next : (old so_far next : Telling) (qs : List Transition) (events : List Event) (i : ℕ) (x : Event) → i < length events → x ≡ get_or events i x
-      → Growing old so_far qs (map tells (drop i events)) → string_bytes next.text ≡ string_bytes so_far.text ++ told_line (vec_items so_far.stepped) (tells x)
-      → string_bytes next.instants ≡ string_bytes so_far.instants ++ flat_map instant_line (closed_by n (vec_items so_far.stepped) (tells x))
-      → vec_items next.stepped ≡ stepped_then (vec_items so_far.stepped) (tells x) → Growing old next qs (map tells (drop (i + 1) events))
+  pub growing_next : (old so_far next : Telling) (qs : List Transition) (events : List Event)
+      (i : ℕ) (x : Event) → i < length events → x ≡ get_or events i x
+      → Growing old so_far qs (map tells (drop i events))
+      → string_bytes next.text
+      ≡ string_bytes so_far.text ++ told_line (vec_items so_far.stepped) (tells x)
+      → string_bytes next.instants
+      ≡ string_bytes so_far.instants
+      ++ flat_map instant_line (closed_by n (vec_items so_far.stepped) (tells x))
+      → vec_items next.stepped ≡ stepped_then (vec_items so_far.stepped) (tells x)
+      → Growing old next qs (map tells (drop (i + 1) events))
   growing_next old so_far next qs events i x l is h =
       growing_more old so_far next qs (map tells (drop (i + 1) events)) (tells x)
-      (subst (λ (es : List Event). Growing old so_far qs (map tells es)) (drop_more events i x l ∙ ap (λ (y : Event). y ∷ drop (i + 1) events) (sym is)) h)
+      (subst (λ (es : List Event). Growing old so_far qs (map tells es))
+      (drop_more events i x l ∙ ap (λ (y : Event). y ∷ drop (i + 1) events) (sym is)) h)
 
-  pub growing_all : (old so_far : Telling) (qs : List Transition) (events : List Event) (i : ℕ) → length events ≤ i → Growing old so_far qs (map tells (drop i events)) → Grows n old so_far qs
+  pub growing_all : (old so_far : Telling) (qs : List Transition) (events : List Event) (i : ℕ)
+      → length events ≤ i → Growing old so_far qs (map tells (drop i events))
+      → Grows n old so_far qs
   growing_all old so_far qs events i l g =
-      let h : Growing old so_far qs [] = subst (λ (es : List Event). Growing old so_far qs (map tells es)) (at_drop_all (λ xs. xs) events i l) g in
+      let h : Growing old so_far qs [] =
+      subst (λ (es : List Event). Growing old so_far qs (map tells es))
+      (at_drop_all (λ xs. xs) events i l) g in
       record {
         text = sym (append-nil (string_bytes so_far.text)) ∙ h.text;
         instants = sym (append-nil (string_bytes so_far.instants)) ∙ h.instants;
@@ -57,24 +80,40 @@ module _ (n : ℕ) where
       }
 
   -- the instants closed by events after others
-  pub closed_instants_append : (v : List ℕ) (ps qs : List Transition) → closed_instants n v (ps ++ qs) ≡ closed_instants n v ps ++ closed_instants n (left_open v ps) qs
+  pub closed_instants_append : (v : List ℕ) (ps qs : List Transition)
+      → closed_instants n v (ps ++ qs)
+      ≡ closed_instants n v ps ++ closed_instants n (left_open v ps) qs
   closed_instants_append v [] qs = refl
   closed_instants_append v (p ∷ ps) qs =
-      ap (λ (es : List ClosedInstant). closed_by n v p ++ es) (closed_instants_append (stepped_then v p) ps qs)
-      ∙ sym (append_assoc (closed_by n v p) (closed_instants n (stepped_then v p) ps) (closed_instants n (left_open (stepped_then v p) ps) qs))
+      ap (λ (es : List ClosedInstant). closed_by n v p ++ es)
+      (closed_instants_append (stepped_then v p) ps qs)
+      ∙ sym (append_assoc (closed_by n v p) (closed_instants n (stepped_then v p) ps)
+      (closed_instants n (left_open (stepped_then v p) ps) qs))
 
   -- a relay is told: the events before, on a telling of nothing; the hand-over; the events after it
-  pub tells_relay : (start one next two : Telling) (before later : List Transition) (handed : List ℕ) → string_bytes start.text ≡ [] → string_bytes start.instants ≡ [] → vec_items start.stepped ≡ []
-      → Grows n start one before → string_bytes next.text ≡ string_bytes one.text ++ handed_text handed → string_bytes next.instants ≡ string_bytes one.instants
-      → vec_items next.stepped ≡ vec_items one.stepped → Grows n next two later → Tells n before handed later two
+  pub tells_relay : (start one next two : Telling) (before later : List Transition)
+      (handed : List ℕ) → string_bytes start.text ≡ [] → string_bytes start.instants ≡ []
+      → vec_items start.stepped ≡ []
+      → Grows n start one before
+      → string_bytes next.text ≡ string_bytes one.text ++ handed_text handed
+      → string_bytes next.instants ≡ string_bytes one.instants
+      → vec_items next.stepped ≡ vec_items one.stepped → Grows n next two later
+      → Tells n before handed later two
   tells_relay start one next two before later handed a b c g h i j k =
       let v = left_open [] before in
       let stepped : vec_items next.stepped ≡ v = j ∙ g.stepped ∙ ap (λ u. left_open u before) c in
       let text : string_bytes next.text ≡ told_lines [] before ++ handed_text handed =
       h ∙ ap (λ t. t ++ handed_text handed) (g.text ∙ ap₂ (λ t u. t ++ told_lines u before) a c) in
-      let instants : string_bytes next.instants ≡ flat_map instant_line (closed_instants n [] before) = i ∙ g.instants ∙ ap₂ (λ t u. t ++ flat_map instant_line (closed_instants n u before)) b c in
+      let instants : string_bytes next.instants
+      ≡ flat_map instant_line (closed_instants n [] before) =
+      i ∙ g.instants ∙ ap₂ (λ t u.
+      t ++ flat_map instant_line (closed_instants n u before)) b c in
       record {
-        text = k.text ∙ ap₂ (λ t u. t ++ told_lines u later) text stepped ∙ append_assoc (told_lines [] before) (handed_text handed) (told_lines v later);
-        instants = k.instants ∙ ap₂ (λ t u. t ++ flat_map instant_line (closed_instants n u later)) instants stepped
-            ∙ sym (flat_map-append instant_line (closed_instants n [] before) (closed_instants n v later)) ∙ ap (flat_map instant_line) (sym (closed_instants_append [] before later));
+        text = k.text ∙ ap₂ (λ t u. t ++ told_lines u later) text stepped
+            ∙ append_assoc (told_lines [] before) (handed_text handed) (told_lines v later);
+        instants = k.instants ∙ ap₂
+            (λ t u. t ++ flat_map instant_line (closed_instants n u later)) instants stepped
+            ∙ sym (flat_map-append instant_line (closed_instants n [] before)
+            (closed_instants n v later))
+            ∙ ap (flat_map instant_line) (sym (closed_instants_append [] before later));
       }

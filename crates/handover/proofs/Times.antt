@@ -6,10 +6,12 @@ use Rattle.std.proofs.Math.Decide.{ℕ_discrete}
 use Rattle.std.specs.List.{count_by}
 use Rattle.rules.specs.Runs.{occurrences}
 
-one_counted : (s k : ℕ) (d : Dec (s ≡ k)) → ◌≡◌ {A = ℕ} (cond (k == s) 1 0) (elim d [ yes p ↦ 1 | no q ↦ 0 ])
+one_counted : (s k : ℕ) (d : Dec (s ≡ k))
+    → ◌≡◌ {A = ℕ} (cond (k == s) 1 0) (elim d [ yes p ↦ 1 | no q ↦ 0 ])
 one_counted s k (yes p) = ap (λ b. cond b 1 0) (eq-eqb k s (sym p))
 one_counted s k (no q) = ap (λ b. cond b 1 0) (ne_eqb k s (λ e. q (sym e)))
 
 pub counted : (s : ℕ) (v : List ℕ) → count_by (λ k. k == s) v ≡ occurrences ℕ_discrete s v
 counted s [] = refl
-counted s (k ∷ v) = sum_by-cons (λ x. cond (x == s) 1 0) k v ∙ ap₂ ◌+◌ (one_counted s k (ℕ_discrete s k)) (counted s v)
+counted s (k ∷ v) = sum_by-cons (λ x. cond (x == s) 1 0) k v
+    ∙ ap₂ ◌+◌ (one_counted s k (ℕ_discrete s k)) (counted s v)

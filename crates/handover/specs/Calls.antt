@@ -1,11 +1,13 @@
 -- lists of calls as bytes; numbers have the lowest byte first
-use Rattle.std.specs.Prelude.{ℕ, zero, suc, cond, List, [], ◌∷◌, length, take, drop, Some, None, Option, ◌==◌, nat_le}
+use Rattle.std.specs.Prelude.{ℕ, zero, suc, cond, List, [], ◌∷◌, length, take, drop, Some, None}
+use Rattle.std.specs.Prelude.{Option, ◌==◌, nat_le}
 use Rattle.std.specs.Int.{w16, w64, from_le_bytes}
 use Rattle.relay.specs.Asked.{Asked, begin, step, close, react, take_over}
 
 -- a number of so many bytes and what follows it, if so many are there
 abbrev pub number : ℕ → (List ℕ → ℕ) → List ℕ → Option (ℕ × List ℕ)
-number n value bytes = cond (nat_le n (length bytes)) (Some (value (take n bytes), drop n bytes)) None
+number n value bytes = cond (nat_le n (length bytes))
+    (Some (value (take n bytes), drop n bytes)) None
 
 abbrev pub pair : List ℕ → Option (ℕ × List ℕ)
 pair = number 2 (from_le_bytes w16)
@@ -20,7 +22,8 @@ asks f (Some p) = Some (f p.0, p.1)
 -- a record of so many bytes, if so many are there
 abbrev pub taking : Option (ℕ × List ℕ) → Option (Asked × List ℕ)
 taking None = None
-taking (Some p) = cond (nat_le p.0 (length p.1)) (Some (take_over (take p.0 p.1), drop p.0 p.1)) None
+taking (Some p) = cond (nat_le p.0 (length p.1))
+    (Some (take_over (take p.0 p.1), drop p.0 p.1)) None
 
 -- a byte for the kind of the call, and then its number or its record
 abbrev pub call_by : ℕ → List ℕ → Option (Asked × List ℕ)

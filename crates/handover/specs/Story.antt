@@ -1,5 +1,6 @@
 -- what the program prints of its input
-use Rattle.std.specs.Prelude.{◌≡◌, ℕ, Bool, true, false, List, [], ◌++◌, length, codes, nat_eq, Ok, Err, Result}
+use Rattle.std.specs.Prelude.{◌≡◌, ℕ, Bool, true, false, List, [], ◌++◌, length, codes, nat_eq, Ok}
+use Rattle.std.specs.Prelude.{Err, Result}
 use Rattle.std.specs.List.{flat_map}
 use lib.Pointwise.{pointwise}
 use Rattle.routine.specs.declared.kinds.SignalKind.{SignalKind}
@@ -22,17 +23,20 @@ use Rattle.handover.specs.Texts.{told_lines, instant_line, byte_text}
 
 -- the record, and that it was taken over
 unfoldable pub handed_text : List ℕ → List ℕ
-handed_text handed = codes "hand over " ++ (flat_map byte_text handed ++ (line_end ++ (codes "taken over" ++ line_end)))
+handed_text handed = codes "hand over "
+    ++ (flat_map byte_text handed ++ (line_end ++ (codes "taken over" ++ line_end)))
 
 -- a line for each call on the first board, the hand-over, and a line for each call on the second
 abbrev pub relay_text : List Transition → List ℕ → List Transition → List ℕ
-relay_text before handed later = told_lines [] before ++ (handed_text handed ++ told_lines (left_open [] before) later)
+relay_text before handed later =
+    told_lines [] before ++ (handed_text handed ++ told_lines (left_open [] before) later)
 
 -- the closed instants alone, of a routine of n statements
 abbrev pub instants_text : ℕ → List Transition → List ℕ
 instants_text n ps = flat_map instant_line (closed_instants n [] ps)
 
--- what the calls cs come to on a new count of the routine, the record that is handed over, and what ds come to after it
+-- what the calls cs come to on a new count of the routine, the record that is handed over, and what
+-- ds come to after it
 abbrev pub before_of : List SignalKind → List Kind → List Asked → List Transition
 before_of gs ks cs = trace gs ks (new_state ks) cs
 
@@ -69,8 +73,11 @@ other_way text = codes "from a stamp board to a bit board" ++ (line_end ++ text)
 abbrev pub both_text : List ℕ → List ℕ → Bool → List ℕ
 both_text first second same = one_way first ++ (other_way second ++ verdict same)
 
-abbrev pub told_both : List SignalKind → List Kind → List Asked → List Asked → List Asked → List Asked → List ℕ
-told_both gs ks cs ds es fs = both_text (told_relay gs ks cs ds) (told_relay gs ks es fs) (same_text (told_instants gs ks cs ds) (told_instants gs ks es fs))
+abbrev pub told_both : List SignalKind → List Kind → List Asked → List Asked → List Asked
+    → List Asked → List ℕ
+told_both gs ks cs ds es fs =
+    both_text (told_relay gs ks cs ds) (told_relay gs ks es fs)
+    (same_text (told_instants gs ks cs ds) (told_instants gs ks es fs))
 
 -- the four lists, one after another
 abbrev pub first_of : List ℕ → List Asked
@@ -86,24 +93,31 @@ abbrev pub fourth_of : List ℕ → List Asked
 fourth_of bytes = (list_of (list_of (list_of (list_of bytes).1).1).1).0
 
 unfoldable pub told_lists : List SignalKind → List Kind → List ℕ → List ℕ
-told_lists gs ks bytes = told_both gs ks (first_of bytes) (second_of bytes) (third_of bytes) (fourth_of bytes)
+told_lists gs ks bytes =
+    told_both gs ks (first_of bytes) (second_of bytes) (third_of bytes) (fourth_of bytes)
 
--- two relays of the routine accept the same words, as many instants are closed in both, and no take over is accepted
-pub record SameWords (gs : List SignalKind) (ks : List Kind) (cs ds es fs : List Asked) : Type 0 where
+-- two relays of the routine accept the same words, as many instants are closed in both, and no take
+-- over is accepted
+pub record SameWords (gs : List SignalKind) (ks : List Kind)
+    (cs ds es fs : List Asked) : Type 0 where
   pub untaken : taken (whole_of gs ks cs ds) ≡ false
   pub untaken_again : taken (whole_of gs ks es fs) ≡ false
   pub words : accepted (whole_of gs ks cs ds) ≡ accepted (whole_of gs ks es fs)
-  pub many : length (closed_instants (length ks) [] (whole_of gs ks cs ds)) ≡ length (closed_instants (length ks) [] (whole_of gs ks es fs))
+  pub many : length (closed_instants (length ks) [] (whole_of gs ks cs ds))
+      ≡ length (closed_instants (length ks) [] (whole_of gs ks es fs))
 
 -- with the verdict that the instants are the same
 abbrev pub told_same : List SignalKind → List Kind → List ℕ → List ℕ
-told_same gs ks bytes = both_text (told_relay gs ks (first_of bytes) (second_of bytes)) (told_relay gs ks (third_of bytes) (fourth_of bytes)) true
+told_same gs ks bytes = both_text (told_relay gs ks (first_of bytes) (second_of bytes))
+    (told_relay gs ks (third_of bytes) (fourth_of bytes)) true
 
 abbrev pub SameWordsIn : List SignalKind → List Kind → List ℕ → Type 0
-SameWordsIn gs ks bytes = SameWords gs ks (first_of bytes) (second_of bytes) (third_of bytes) (fourth_of bytes)
+SameWordsIn gs ks bytes =
+    SameWords gs ks (first_of bytes) (second_of bytes) (third_of bytes) (fourth_of bytes)
 
 -- a table that is no routine is refused
-abbrev pub started : Result (List SignalKind × List Statement) Refusal → List ℕ → Result (List ℕ) Refusal
+abbrev pub started : Result (List SignalKind × List Statement) Refusal → List ℕ
+    → Result (List ℕ) Refusal
 started (Ok p) bytes = Ok (told_lists p.0 (kinds p.1) bytes)
 started (Err e) bytes = Err e
 
@@ -112,5 +126,6 @@ story_of bytes = started (load_of (table_part bytes)) (rest_part bytes)
 
 -- of a routine: where the words are the same, so are the instants
 abbrev pub SaysSame : Result (List SignalKind × List Statement) Refusal → List ℕ → Printed → Type 0
-SaysSame (Ok p) bytes s = SameWordsIn p.0 (kinds p.1) bytes → said s ≡ Ok (told_same p.0 (kinds p.1) bytes)
+SaysSame (Ok p) bytes s = SameWordsIn p.0 (kinds p.1) bytes
+    → said s ≡ Ok (told_same p.0 (kinds p.1) bytes)
 SaysSame (Err e) bytes s = Unit {0}

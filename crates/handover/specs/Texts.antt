@@ -36,7 +36,8 @@ abbrev pub told_text : List ℕ → Transition → List ℕ
 told_text v (begins word) = codes "begin " ++ hex 16 word
 told_text v (steps k) = codes "step " ++ decimal k
 told_text v (closes c ms) = codes "close " ++ (ended_text c ms ++ stepped_text v)
-told_text v (reacts word c ms u) = codes "react " ++ (hex 16 word ++ (codes " " ++ (ended_text c ms ++ stepped_text u)))
+told_text v (reacts word c ms u) =
+    codes "react " ++ (hex 16 word ++ (codes " " ++ (ended_text c ms ++ stepped_text u)))
 told_text v takes_over = codes "take over"
 told_text v (refuses r) = refusal_line r
 
@@ -48,11 +49,13 @@ abbrev pub told_lines : List ℕ → List Transition → List ℕ
 told_lines v [] = []
 told_lines v (p ∷ ps) = told_line v p ++ told_lines (stepped_then v p) ps
 
--- a closed instant alone: its closing, the marks that remain, and how often each statement was stepped
+-- a closed instant alone: its closing, the marks that remain, and how often each statement was
+-- stepped
 abbrev pub instant_line : ClosedInstant → List ℕ
 instant_line e =
     instant_text e.instant e.outcome.outputs e.outcome.status e.outcome.steps
-    ++ (codes " marks " ++ (flat_map letter e.outcome.marks ++ (codes " times" ++ (numbers_text e.outcome.times ++ line_end))))
+    ++ (codes " marks " ++ (flat_map letter e.outcome.marks
+    ++ (codes " times" ++ (numbers_text e.outcome.times ++ line_end))))
 
 -- two hexadecimal digits
 abbrev pub byte_text : ℕ → List ℕ

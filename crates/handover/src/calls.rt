@@ -7,7 +7,8 @@ use std::alloc::{AllocError, Global};
 
 // A number of two bytes, and what follows it.
 fn pair(bytes: &[u8]) -> Option<(u16, &[u8])>
-    ensures { MatchOption result (pair bytes.now ≡ None) (λ p. pair bytes.now ≡ Some (p.0, p.1.now)) }
+    ensures { MatchOption result (pair bytes.now ≡ None)
+        (λ p. pair bytes.now ≡ Some (p.0, p.1.now)) }
 {
     let (number, rest) = bytes.split_first_chunk::<2>()?;
     Some((u16::from_le_bytes(*number), rest))
@@ -15,7 +16,8 @@ fn pair(bytes: &[u8]) -> Option<(u16, &[u8])>
 
 // A number of eight bytes, and what follows it.
 fn word(bytes: &[u8]) -> Option<(u64, &[u8])>
-    ensures { MatchOption result (word bytes.now ≡ None) (λ p. word bytes.now ≡ Some (p.0, p.1.now)) }
+    ensures { MatchOption result (word bytes.now ≡ None)
+        (λ p. word bytes.now ≡ Some (p.0, p.1.now)) }
 {
     let (number, rest) = bytes.split_first_chunk::<8>()?;
     Some((u64::from_le_bytes(*number), rest))
@@ -23,7 +25,8 @@ fn word(bytes: &[u8]) -> Option<(u64, &[u8])>
 
 // The call of that kind, and what follows it.
 fn call_by(kind: u8, rest: &[u8]) -> Option<(Call<'_>, &[u8])>
-    ensures { MatchOption result (call_by kind rest.now ≡ None) (λ p. call_by kind rest.now ≡ Some (asked p.0, p.1.now)) }
+    ensures { MatchOption result (call_by kind rest.now ≡ None)
+        (λ p. call_by kind rest.now ≡ Some (asked p.0, p.1.now)) }
 {
     match kind {
         0 => {
@@ -52,7 +55,8 @@ fn call_by(kind: u8, rest: &[u8]) -> Option<(Call<'_>, &[u8])>
 // The first call, and what follows it.
 #[tactic(auto, unfolding(crate::specs::Calls::call_of))]
 fn call(bytes: &[u8]) -> Option<(Call<'_>, &[u8])>
-    ensures { MatchOption result (call_of bytes.now ≡ None) (λ p. call_of bytes.now ≡ Some (asked p.0, p.1.now)) }
+    ensures { MatchOption result (call_of bytes.now ≡ None)
+        (λ p. call_of bytes.now ≡ Some (asked p.0, p.1.now)) }
 {
     let (kind, rest) = bytes.split_first()?;
     call_by(*kind, rest)

@@ -8,8 +8,8 @@ mod texts;
 use std::io::Read;
 use story::story;
 
-// Reads a table and four lists of calls from standard input and prints what comes of them: a count that goes from one board to
-// another, twice.
+// Reads a table and four lists of calls from standard input and prints what comes of them: a count
+// that goes from one board to another, twice.
 fn main(rt: HostRuntime) -> anyhow::Result<()> {
     let mut bytes = Vec::new(rt.alloc());
     rt.stdin().take(65536).read_to_end(&mut bytes)?;

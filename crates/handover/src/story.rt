@@ -4,7 +4,9 @@ ghost use Rattle.routine.specs.View.{table_kinds, table_signals, load_of};
 ghost use Rattle.input.specs.Input.{table_part, rest_part};
 ghost use Rattle.input.specs.Printed.{said};
 ghost use Rattle.relay.specs.Asked.{asked};
-ghost use Rattle.handover.specs.Story.{one_way, other_way, both_text, same_text, told_lists, story_of, verdict, SameWords, SameWordsIn, SaysSame, told_same};
+ghost use Rattle.handover.specs.Story.{one_way, other_way, both_text, same_text, told_lists};
+ghost use Rattle.handover.specs.Story.{story_of, verdict, SameWords, SameWordsIn, SaysSame};
+ghost use Rattle.handover.specs.Story.{told_same};
 ghost use Rattle.handover.specs.Telling.{IsTold};
 
 use crate::calls::list;
@@ -28,7 +30,8 @@ fn write_verdict(out: &mut String, same: bool) -> Result<(), AllocError>
 
 #[tactic(auto, unfolding(crate::specs::Story::one_way))]
 fn write_one_way(out: &mut String, telling: &Telling) -> Result<(), AllocError>
-    ensures { OnOk result (string_bytes out.new ≡ string_bytes out.old ++ one_way (string_bytes telling.now.text)) }
+    ensures { OnOk result (string_bytes out.new
+        ≡ string_bytes out.old ++ one_way (string_bytes telling.now.text)) }
 {
     writeln!(out, "from a bit board to a stamp board")?;
     write!(out, "{}", telling.text)
@@ -36,14 +39,18 @@ fn write_one_way(out: &mut String, telling: &Telling) -> Result<(), AllocError>
 
 #[tactic(auto, unfolding(crate::specs::Story::other_way))]
 fn write_other_way(out: &mut String, telling: &Telling) -> Result<(), AllocError>
-    ensures { OnOk result (string_bytes out.new ≡ string_bytes out.old ++ other_way (string_bytes telling.now.text)) }
+    ensures { OnOk result (string_bytes out.new
+        ≡ string_bytes out.old ++ other_way (string_bytes telling.now.text)) }
 {
     writeln!(out, "from a stamp board to a bit board")?;
     write!(out, "{}", telling.text)
 }
 
 fn write_both(out: &mut String, first: &Telling, second: &Telling) -> Result<(), AllocError>
-    ensures { OnOk result (string_bytes out.new ≡ string_bytes out.old ++ both_text (string_bytes first.now.text) (string_bytes second.now.text) (same_text (string_bytes first.now.instants) (string_bytes second.now.instants))) }
+    ensures { OnOk result (string_bytes out.new
+        ≡ string_bytes out.old ++ both_text (string_bytes first.now.text)
+        (string_bytes second.now.text)
+        (same_text (string_bytes first.now.instants) (string_bytes second.now.instants))) }
 {
     write_one_way(out, first)?;
     write_other_way(out, second)?;
@@ -64,9 +71,17 @@ fn tell_twice<A: Board + Drop, B: Board + Drop, C: Board + Drop, D: Board + Drop
     plan: Plan<'_, A, B>,
     again: Plan<'_, C, D>,
 ) -> Result<Tellings, AllocError>
-    ensures first { IfOk result (λ t. IsTold (table_signals routine.table) (table_kinds routine.table) (map asked plan.entry.before.now) (map asked plan.entry.later.now) t.first) }
-    ensures second { IfOk result (λ t. IsTold (table_signals routine.table) (table_kinds routine.table) (map asked again.entry.before.now) (map asked again.entry.later.now) t.second) }
-    ensures same { IfOk result (λ t. SameWords (table_signals routine.table) (table_kinds routine.table) (map asked plan.entry.before.now) (map asked plan.entry.later.now) (map asked again.entry.before.now) (map asked again.entry.later.now) → string_bytes t.first.instants ≡ string_bytes t.second.instants) }
+    ensures first { IfOk result
+        (λ t. IsTold (table_signals routine.table) (table_kinds routine.table)
+        (map asked plan.entry.before.now) (map asked plan.entry.later.now) t.first) }
+    ensures second { IfOk result
+        (λ t. IsTold (table_signals routine.table) (table_kinds routine.table)
+        (map asked again.entry.before.now) (map asked again.entry.later.now) t.second) }
+    ensures same { IfOk result
+        (λ t. SameWords (table_signals routine.table) (table_kinds routine.table)
+        (map asked plan.entry.before.now) (map asked plan.entry.later.now)
+        (map asked again.entry.before.now) (map asked again.entry.later.now)
+        → string_bytes t.first.instants ≡ string_bytes t.second.instants) }
 {
     let statements = routine.count();
     let mut k = Keeper::new(heap);
@@ -87,8 +102,13 @@ fn tell_both(
     routine: Routine,
     bytes: &[u8],
 ) -> Result<(), AllocError>
-    ensures tells { OnOk result (string_bytes out.new ≡ string_bytes out.old ++ told_lists (table_signals routine.table) (table_kinds routine.table) bytes.now) }
-    ensures same { OnOk result (SameWordsIn (table_signals routine.table) (table_kinds routine.table) bytes.now → string_bytes out.new ≡ string_bytes out.old ++ told_same (table_signals routine.table) (table_kinds routine.table) bytes.now) }
+    ensures tells { OnOk result
+        (string_bytes out.new ≡ string_bytes out.old
+        ++ told_lists (table_signals routine.table) (table_kinds routine.table) bytes.now) }
+    ensures same { OnOk result
+        (SameWordsIn (table_signals routine.table) (table_kinds routine.table) bytes.now
+        → string_bytes out.new ≡ string_bytes out.old
+        ++ told_same (table_signals routine.table) (table_kinds routine.table) bytes.now) }
 {
     let (before, rest) = list(heap, bytes)?;
     let (later, rest) = list(heap, rest)?;
@@ -111,7 +131,8 @@ fn tell_both(
     Ok(())
 }
 
-// What there is to print of the input's bytes. A table that is no routine is refused whatever memory there is.
+// What there is to print of the input's bytes. A table that is no routine is refused whatever
+// memory there is.
 pub fn story(heap: Global, bytes: &[u8]) -> Result<Printed, AllocError>
     ensures says { SaysOrMemory (story_of bytes.now) said result }
     ensures same { IfOk result (SaysSame (load_of (table_part bytes.now)) (rest_part bytes.now)) }

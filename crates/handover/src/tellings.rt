@@ -1,4 +1,5 @@
-ghost use Rattle.std.specs.Prelude.{◌≡◌, [], ◌++◌, drop, false, map, IfOk, OnOk, string_bytes, vec_items};
+ghost use Rattle.std.specs.Prelude.{◌≡◌, [], ◌++◌, drop, false, map, IfOk, OnOk, string_bytes};
+ghost use Rattle.std.specs.Prelude.{vec_items};
 ghost use Rattle.std.specs.List.{flat_map};
 ghost use Rattle.relay.specs.Promises.{closed_by, stepped_then};
 ghost use Rattle.relay.specs.View.{tells, ear_of};
@@ -10,8 +11,8 @@ use crate::texts::{write_bytes, write_event, write_instant};
 use relay::{Event, Keeper};
 use std::alloc::{AllocError, Global};
 
-// What there is to tell of a relay: a line for each call, a line for each closed instant, and the statements that were stepped in
-// the instant that is open.
+// What there is to tell of a relay: a line for each call, a line for each closed instant, and the
+// statements that were stepped in the instant that is open.
 #[derive(Debug, Drop)]
 pub(crate) struct Telling {
     pub(crate) text: String,
@@ -34,7 +35,10 @@ impl Telling {
 
     // The line of a call.
     fn write_line(&mut self, event: &Event) -> Result<(), AllocError>
-        ensures text { OnOk result (string_bytes self.new.text ≡ string_bytes self.old.text ++ told_line (vec_items self.old.stepped) (tells event.now)) }
+        ensures text { OnOk result
+            (string_bytes self.new.text
+            ≡ string_bytes self.old.text
+            ++ told_line (vec_items self.old.stepped) (tells event.now)) }
         ensures instants { self.new.instants ≡ self.old.instants }
         ensures stepped { self.new.stepped ≡ self.old.stepped }
     {
@@ -44,7 +48,11 @@ impl Telling {
 
     // The line of the instant that the event closed, if it closed one.
     fn write_closed(&mut self, statements: usize, event: &Event) -> Result<(), AllocError>
-        ensures instants { OnOk result (string_bytes self.new.instants ≡ string_bytes self.old.instants ++ flat_map instant_line (closed_by statements (vec_items self.old.stepped) (tells event.now))) }
+        ensures instants { OnOk result
+            (string_bytes self.new.instants
+            ≡ string_bytes self.old.instants
+            ++ flat_map instant_line
+            (closed_by statements (vec_items self.old.stepped) (tells event.now))) }
         ensures text { self.new.text ≡ self.old.text }
         ensures stepped { self.new.stepped ≡ self.old.stepped }
     {
@@ -68,7 +76,9 @@ impl Telling {
 
     // What is stepped in the open instant after the event.
     fn follow(&mut self, event: &Event) -> Result<(), AllocError>
-        ensures stepped { OnOk result (vec_items self.new.stepped ≡ stepped_then (vec_items self.old.stepped) (tells event.now)) }
+        ensures stepped { OnOk result
+            (vec_items self.new.stepped
+            ≡ stepped_then (vec_items self.old.stepped) (tells event.now)) }
         ensures text { self.new.text ≡ self.old.text }
         ensures instants { self.new.instants ≡ self.old.instants }
     {
@@ -82,9 +92,18 @@ impl Telling {
     }
 
     fn write(&mut self, statements: usize, event: &Event) -> Result<(), AllocError>
-        ensures text { OnOk result (string_bytes self.new.text ≡ string_bytes self.old.text ++ told_line (vec_items self.old.stepped) (tells event.now)) }
-        ensures instants { OnOk result (string_bytes self.new.instants ≡ string_bytes self.old.instants ++ flat_map instant_line (closed_by statements (vec_items self.old.stepped) (tells event.now))) }
-        ensures stepped { OnOk result (vec_items self.new.stepped ≡ stepped_then (vec_items self.old.stepped) (tells event.now)) }
+        ensures text { OnOk result
+            (string_bytes self.new.text
+            ≡ string_bytes self.old.text
+            ++ told_line (vec_items self.old.stepped) (tells event.now)) }
+        ensures instants { OnOk result
+            (string_bytes self.new.instants
+            ≡ string_bytes self.old.instants
+            ++ flat_map instant_line
+            (closed_by statements (vec_items self.old.stepped) (tells event.now))) }
+        ensures stepped { OnOk result
+            (vec_items self.new.stepped
+            ≡ stepped_then (vec_items self.old.stepped) (tells event.now)) }
     {
         self.write_line(event)?;
         self.write_closed(statements, event)?;
@@ -120,7 +139,8 @@ fn tell(
     handed: &[u8],
     later: &[Event],
 ) -> Result<Telling, AllocError>
-    ensures { IfOk result (Tells statements (map tells before.now) handed.now (map tells later.now)) }
+    ensures { IfOk result (Tells statements (map tells before.now) handed.now
+        (map tells later.now)) }
 {
     let mut telling = Telling::new(heap);
     telling.write_all(statements, before)?;
@@ -129,7 +149,8 @@ fn tell(
     Ok(telling)
 }
 
-// The same of what was kept on both boards. The first thing that is heard on the second is that the record was taken over.
+// The same of what was kept on both boards. The first thing that is heard on the second is that the
+// record was taken over.
 pub(crate) fn tell_kept(
     heap: Global,
     statements: usize,
@@ -137,7 +158,8 @@ pub(crate) fn tell_kept(
     handed: &[u8],
     other: Keeper,
 ) -> Result<Telling, AllocError>
-    ensures tells { IfOk result (Tells statements (ear_of one).heard handed.now (drop 1 (ear_of other).heard)) }
+    ensures tells { IfOk result
+        (Tells statements (ear_of one).heard handed.now (drop 1 (ear_of other).heard)) }
     ensures one { IfOk result (λ _. (ear_of one).lost ≡ false) }
     ensures other { IfOk result (λ _. (ear_of other).lost ≡ false) }
 {

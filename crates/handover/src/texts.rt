@@ -6,7 +6,8 @@ ghost use Rattle.rules.specs.Model.{each_below};
 ghost use Rattle.rules.specs.Runs.{occurrences};
 ghost use Rattle.std.proofs.Math.Decide.{ℕ_discrete};
 ghost use Rattle.relay.specs.Promises.{closed_as};
-ghost use Rattle.handover.specs.Texts.{letter, ended_text, numbers_text, stepped_text, told_text, instant_line, byte_text};
+ghost use Rattle.handover.specs.Texts.{letter, ended_text, numbers_text, stepped_text, told_text};
+ghost use Rattle.handover.specs.Texts.{instant_line, byte_text};
 
 use occurrences::Closing;
 use relay::Event;
@@ -26,7 +27,8 @@ fn write_letter(out: &mut String, mark: Mark) -> Result<(), AllocError>
 }
 
 fn write_marks(out: &mut String, marks: &[Mark]) -> Result<(), AllocError>
-    ensures { OnOk result (string_bytes out.new ≡ string_bytes out.old ++ flat_map letter marks.now) }
+    ensures { OnOk result (string_bytes out.new
+        ≡ string_bytes out.old ++ flat_map letter marks.now) }
 {
     for mark in marks {
         write_letter(out, *mark)?;
@@ -35,7 +37,8 @@ fn write_marks(out: &mut String, marks: &[Mark]) -> Result<(), AllocError>
 }
 
 fn write_numbers(out: &mut String, numbers: &[usize]) -> Result<(), AllocError>
-    ensures { OnOk result (string_bytes out.new ≡ string_bytes out.old ++ numbers_text numbers.now) }
+    ensures { OnOk result (string_bytes out.new
+        ≡ string_bytes out.old ++ numbers_text numbers.now) }
 {
     for number in numbers {
         write!(out, " {number}")?;
@@ -44,7 +47,8 @@ fn write_numbers(out: &mut String, numbers: &[usize]) -> Result<(), AllocError>
 }
 
 fn write_stepped(out: &mut String, stepped: &[usize]) -> Result<(), AllocError>
-    ensures { OnOk result (string_bytes out.new ≡ string_bytes out.old ++ stepped_text stepped.now) }
+    ensures { OnOk result (string_bytes out.new
+        ≡ string_bytes out.old ++ stepped_text stepped.now) }
 {
     write!(out, " stepped")?;
     write_numbers(out, stepped)
@@ -59,7 +63,8 @@ fn write_word(out: &mut String, word: u64) -> Result<(), AllocError>
 
 // A closed instant: its closing, and the marks that remain.
 fn write_ended(out: &mut String, closing: &Closing, marks: &[Mark]) -> Result<(), AllocError>
-    ensures { OnOk result (string_bytes out.new ≡ string_bytes out.old ++ ended_text closing.now marks.now) }
+    ensures { OnOk result (string_bytes out.new
+        ≡ string_bytes out.old ++ ended_text closing.now marks.now) }
 {
     write!(out, "{closing} marks ")?;
     write_marks(out, marks)
@@ -71,7 +76,8 @@ pub(crate) fn write_event(
     stepped: &[usize],
     event: &Event,
 ) -> Result<(), AllocError>
-    ensures { OnOk result (string_bytes out.new ≡ string_bytes out.old ++ told_text stepped.now (tells event.now)) }
+    ensures { OnOk result (string_bytes out.new
+        ≡ string_bytes out.old ++ told_text stepped.now (tells event.now)) }
 {
     match event {
         Event::Begun { word } => {
@@ -110,7 +116,9 @@ fn how_often(stepped: &[usize], statement: usize) -> usize
 
 // How often each of the statements was stepped.
 fn write_times(out: &mut String, statements: usize, stepped: &[usize]) -> Result<(), AllocError>
-    ensures { OnOk result (string_bytes out.new ≡ string_bytes out.old ++ numbers_text (each_below (λ i. occurrences ℕ_discrete i stepped.now) statements)) }
+    ensures { OnOk result (string_bytes out.new
+        ≡ string_bytes out.old ++ numbers_text
+        (each_below (λ i. occurrences ℕ_discrete i stepped.now) statements)) }
 {
     for statement in 0..statements {
         write!(out, " {}", how_often(stepped, statement))?;
@@ -126,7 +134,9 @@ pub(crate) fn write_instant(
     marks: &[Mark],
     stepped: &[usize],
 ) -> Result<(), AllocError>
-    ensures { OnOk result (string_bytes out.new ≡ string_bytes out.old ++ instant_line (closed_as statements closing.now marks.now stepped.now)) }
+    ensures { OnOk result (string_bytes out.new
+        ≡ string_bytes out.old ++ instant_line
+        (closed_as statements closing.now marks.now stepped.now)) }
 {
     write_ended(out, closing, marks)?;
     write!(out, " times")?;
@@ -154,7 +164,8 @@ fn write_byte(out: &mut String, byte: u8) -> Result<(), AllocError>
 
 // Two hexadecimal digits for each byte.
 pub(crate) fn write_bytes(out: &mut String, bytes: &[u8]) -> Result<(), AllocError>
-    ensures { OnOk result (string_bytes out.new ≡ string_bytes out.old ++ flat_map byte_text bytes.now) }
+    ensures { OnOk result (string_bytes out.new
+        ≡ string_bytes out.old ++ flat_map byte_text bytes.now) }
 {
     for byte in bytes {
         write_byte(out, *byte)?;

@@ -7,6 +7,9 @@ ghost use Rattle.input.specs.Input.{table_part, rest_part};
 
 pub use printed::Printed;
 
+/// How many bytes of its input a program reads at most.
+pub const MOST_INPUT_BYTES: u64 = 65_536;
+
 // Cuts the input of a program into the table and what follows it.
 pub fn cut(bytes: &[u8]) -> (&[u8], &[u8])
     ensures table { result.0.now ≡ table_part bytes.now }

@@ -1,6 +1,9 @@
 -- what is known of bytes that are accepted
-use Rattle.std.proofs.Common.{◌≡◌, ℕ, ◌+◌, ◌<◌, ◌≤◌, Bool, true, false, not, ◌&&◌, ◌||◌, List, length, Some, None, Option, get_or, refl, sym, ap, ◌∙◌, slice_index, is_some, ⊎_elim, ◌==◌, arith}
-use Rattle.std.proofs.lemmas.Bool.{and_parts, or_parts, not-true, not-false, eqb-true, true≢false, cases_lt, cond-false, ne_eqb}
+use Rattle.std.proofs.Common.{◌≡◌, ℕ, ◌+◌, ◌<◌, ◌≤◌, Bool, true, false, not, ◌&&◌, ◌||◌, List}
+use Rattle.std.proofs.Common.{length, Some, None, Option, get_or, refl, sym, ap, ◌∙◌, slice_index}
+use Rattle.std.proofs.Common.{is_some, ⊎_elim, ◌==◌, arith}
+use Rattle.std.proofs.lemmas.Bool.{and_parts, or_parts, not-true, not-false, eqb-true, true≢false}
+use Rattle.std.proofs.lemmas.Bool.{cases_lt, cond-false, ne_eqb}
 use Rattle.routine.specs.declared.kinds.Kind.{Kind}
 use Rattle.routine.specs.declared.kinds.SignalKind.{SignalKind}
 use Rattle.routine.specs.Search.{lowest, any}
@@ -14,9 +17,13 @@ use Rattle.record.specs.declared.heads.HeadFault.{HeadFault}
 use Rattle.record.specs.Phases.{is_open, is_over}
 use Rattle.record.specs.Record.{contents}
 use Rattle.record.proofs.Fields.{at-marks_read}
-use Rattle.record.specs.Taking.{is_fixed, is_wrong, is_fixed_right, has_form, phase_in, phase_or_resting, head_in, head_fault, fault_of, fault_by, mark_in, marks_read, marks_in, breaks, marks_fault, taking_by, taking_refusal}
+use Rattle.record.specs.Taking.{is_fixed, is_wrong, is_fixed_right, has_form, phase_in}
+use Rattle.record.specs.Taking.{phase_or_resting, head_in, head_fault, fault_of, fault_by, mark_in}
+use Rattle.record.specs.Taking.{marks_read, marks_in, breaks, marks_fault, taking_by}
+use Rattle.record.specs.Taking.{taking_refusal}
 
-parts_taken : (b : Bool) (h : Option HeadFault) (m : Option ℕ) → taking_by b h m ≡ None → (b ≡ true) × (h ≡ None) × (m ≡ None)
+parts_taken : (b : Bool) (h : Option HeadFault) (m : Option ℕ) → taking_by b h m ≡ None
+    → (b ≡ true) × (h ≡ None) × (m ≡ None)
 parts_taken false h m e = absurd (cc)
 parts_taken true (Some o) m e = absurd (cc)
 parts_taken true None (Some i) e = absurd (cc)
@@ -34,54 +41,75 @@ unless : (x y : Bool) → (x && not y) ≡ false → x ≡ true → y ≡ true
 unless true y e h = not-false y e
 unless false y e h = absurd (true≢false (sym h))
 
-fixed_right : (n : ℕ) (bytes : List ℕ) → is_fixed_right n bytes ≡ true → (i : ℕ) → i < 279 → is_fixed n i ≡ true → get_or bytes i 0 ≡ get_or (contents n) i 0
+fixed_right : (n : ℕ) (bytes : List ℕ) → is_fixed_right n bytes ≡ true → (i : ℕ) → i < 279
+    → is_fixed n i ≡ true → get_or bytes i 0 ≡ get_or (contents n) i 0
 unfolding is_fixed_right
 fixed_right n bytes h i l f =
     eqb-true (get_or bytes i 0) (get_or (contents n) i 0)
-    (unless (is_fixed n i) (slice_index bytes i == slice_index (contents n) i) (nowhere (is_wrong n bytes) 279 h i l) f)
+    (unless (is_fixed n i) (slice_index bytes i == slice_index (contents n) i)
+    (nowhere (is_wrong n bytes) 279 h i l) f)
 
-formed : (n : ℕ) (bytes : List ℕ) → has_form n bytes ≡ true → (length bytes ≡ 279) × (is_fixed_right n bytes ≡ true)
+formed : (n : ℕ) (bytes : List ℕ) → has_form n bytes ≡ true
+    → (length bytes ≡ 279) × (is_fixed_right n bytes ≡ true)
 unfolding has_form
-formed n bytes h = let p = and_parts (length bytes == 279) (is_fixed_right n bytes) h in (eqb-true (length bytes) 279 p.0, p.1)
+formed n bytes h = let p = and_parts (length bytes == 279) (is_fixed_right n bytes) h in
+    (eqb-true (length bytes) 279 p.0, p.1)
 
 -- from 3 on a byte is no phase, and from 4 on no mark
 no_phase : (b : ℕ) → 3 ≤ b → phase_in b ≡ None
 no_phase b l =
-    cond-false (b == 0) _ _ (ne_eqb b 0 (λ q. omega arith)) ∙ cond-false (b == 1) _ _ (ne_eqb b 1 (λ q. omega arith))
+    cond-false (b == 0) _ _ (ne_eqb b 0 (λ q. omega arith))
+    ∙ cond-false (b == 1) _ _ (ne_eqb b 1 (λ q. omega arith))
     ∙ cond-false (b == 2) _ _ (ne_eqb b 2 (λ q. omega arith))
 
 no_mark : (b : ℕ) → 4 ≤ b → mark_in b ≡ None
 no_mark b l =
-    cond-false (b == 0) _ _ (ne_eqb b 0 (λ q. omega arith)) ∙ cond-false (b == 1) _ _ (ne_eqb b 1 (λ q. omega arith))
-    ∙ cond-false (b == 2) _ _ (ne_eqb b 2 (λ q. omega arith)) ∙ cond-false (b == 3) _ _ (ne_eqb b 3 (λ q. omega arith))
+    cond-false (b == 0) _ _ (ne_eqb b 0 (λ q. omega arith))
+    ∙ cond-false (b == 1) _ _ (ne_eqb b 1 (λ q. omega arith))
+    ∙ cond-false (b == 2) _ _ (ne_eqb b 2 (λ q. omega arith))
+    ∙ cond-false (b == 3) _ _ (ne_eqb b 3 (λ q. omega arith))
 
 is_mark : (b : ℕ) → is_some (mark_in b) ≡ true → b < 4
-is_mark b e = ⊎_elim (λ l. l) (λ (l : 4 ≤ b). absurd (true≢false (sym e ∙ ap is_some (no_mark b l)))) (cases_lt b 4)
+is_mark b e = ⊎_elim (λ l. l)
+    (λ (l : 4 ≤ b). absurd (true≢false (sym e ∙ ap is_some (no_mark b l)))) (cases_lt b 4)
 
 is_phase : (b g : ℕ) (h : Head) → fault_of (phase_in b) g h ≡ None → b < 3
-is_phase b g h e = ⊎_elim (λ l. l) (λ (l : 3 ≤ b). absurd (true≢false (ap is_some (sym (ap (λ o. fault_of o g h) (no_phase b l)) ∙ e)))) (cases_lt b 3)
+is_phase b g h e = ⊎_elim (λ l. l)
+    (λ (l : 3 ≤ b). absurd (true≢false
+    (ap is_some (sym (ap (λ o. fault_of o g h) (no_phase b l)) ∙ e)))) (cases_lt b 3)
 
 -- a head of a phase that is read
-of_phase : (o : Option Phase) (g : ℕ) (h : Head) → fault_of o g h ≡ None → fault_by (phase_or_resting o) g h ≡ None
+of_phase : (o : Option Phase) (g : ℕ) (h : Head) → fault_of o g h ≡ None
+    → fault_by (phase_or_resting o) g h ≡ None
 of_phase None g h e = absurd (cc)
 of_phase (Some p) g h e = e
 
-head_taken : (g : ℕ) (bytes : List ℕ) → head_fault g bytes ≡ None → (get_or bytes 8 0 < 3) × (fault_by (head_in bytes).phase g (head_in bytes) ≡ None)
+head_taken : (g : ℕ) (bytes : List ℕ) → head_fault g bytes ≡ None
+    → (get_or bytes 8 0 < 3) × (fault_by (head_in bytes).phase g (head_in bytes) ≡ None)
 unfolding head_fault head_in
-head_taken g bytes h = (is_phase (slice_index bytes 8) g (head_in bytes) h, of_phase (phase_in (slice_index bytes 8)) g (head_in bytes) h)
+head_taken g bytes h = (
+  is_phase (slice_index bytes 8) g (head_in bytes) h,
+  of_phase (phase_in (slice_index bytes 8)) g (head_in bytes) h,
+)
 
-marks_taken : (ks : List Kind) (bytes : List ℕ) → marks_fault ks bytes ≡ None → (i : ℕ) → i < length ks → breaks ks (head_in bytes).phase (marks_read (length ks) bytes) i ≡ false
+marks_taken : (ks : List Kind) (bytes : List ℕ) → marks_fault ks bytes ≡ None → (i : ℕ)
+    → i < length ks → breaks ks (head_in bytes).phase (marks_read (length ks) bytes) i ≡ false
 unfolding marks_fault
-marks_taken ks bytes = none_below (breaks ks (head_in bytes).phase (marks_read (length ks) bytes)) (length ks)
+marks_taken ks bytes = none_below (breaks ks (head_in bytes).phase (marks_read (length ks) bytes))
+    (length ks)
 
-module _ (gs : List SignalKind) (ks : List Kind) (bytes : List ℕ) (ok : taking_refusal gs ks bytes ≡ None) where
-  three : (has_form (length ks) bytes ≡ true) × (head_fault (length gs) bytes ≡ None) × (marks_fault ks bytes ≡ None)
-  three = parts_taken (has_form (length ks) bytes) (head_fault (length gs) bytes) (marks_fault ks bytes) ok
+module _ (gs : List SignalKind) (ks : List Kind) (bytes : List ℕ)
+    (ok : taking_refusal gs ks bytes ≡ None) where
+  three : (has_form (length ks) bytes ≡ true) × (head_fault (length gs) bytes ≡ None)
+      × (marks_fault ks bytes ≡ None)
+  three = parts_taken (has_form (length ks) bytes) (head_fault (length gs) bytes)
+      (marks_fault ks bytes) ok
 
   pub long : length bytes ≡ 279
   long = (formed (length ks) bytes three.0).0
 
-  pub fixed : (i : ℕ) → i < 279 → is_fixed (length ks) i ≡ true → get_or bytes i 0 ≡ get_or (contents (length ks)) i 0
+  pub fixed : (i : ℕ) → i < 279 → is_fixed (length ks) i ≡ true
+      → get_or bytes i 0 ≡ get_or (contents (length ks)) i 0
   fixed = fixed_right (length ks) bytes (formed (length ks) bytes three.0).1
 
   pub some_phase : get_or bytes 8 0 < 3
@@ -96,12 +124,15 @@ module _ (gs : List SignalKind) (ks : List Kind) (bytes : List ℕ) (ok : taking
   abbrev ms : List Mark
   ms = marks_in (length ks) bytes
 
-  unbroken : (i : ℕ) → i < length ks → (not (is_some (get_or (marks_read (length ks) bytes) i (Some Idle))) ≡ false)
-      × ((not (keeps (is_open phase) ks ms i) || ((i == 0) && (is_over phase && not (over (tree_at ks 0) ms)))) ≡ false)
+  unbroken : (i : ℕ) → i < length ks
+      → (not (is_some (get_or (marks_read (length ks) bytes) i (Some Idle))) ≡ false)
+      × ((not (keeps (is_open phase) ks ms i)
+      || ((i == 0) && (is_over phase && not (over (tree_at ks 0) ms)))) ≡ false)
   unbroken i l = or_parts _ _ (marks_taken ks bytes three.2 i l)
 
   pub some_mark : (i : ℕ) → i < length ks → get_or bytes (23 + i) 0 < 4
-  some_mark i l = is_mark (slice_index bytes (23 + i)) (ap is_some (sym (at-marks_read (length ks) bytes i l)) ∙ not-false _ (unbroken i l).0)
+  some_mark i l = is_mark (slice_index bytes (23 + i))
+      (ap is_some (sym (at-marks_read (length ks) bytes i l)) ∙ not-false _ (unbroken i l).0)
 
   pub each_keeps : (i : ℕ) → i < length ks → keeps (is_open phase) ks ms i ≡ true
   each_keeps i l = not-false _ (or_parts _ _ (unbroken i l).1).0

@@ -1,5 +1,7 @@
 -- the fields of a head, and the marks, as bytes and back
-use Rattle.std.proofs.Common.{◌≡◌, ℕ, zero, suc, ◌+◌, ◌^◌, ◌<◌, ◌≤◌, Bool, true, false, cond, Some, None, Option, List, ◌∷◌, ◌++◌, length, get_or, refl, ap, ◌∙◌, ⊎_elim, slice_index, nat_lt, ◌==◌, arith}
+use Rattle.std.proofs.Common.{◌≡◌, ℕ, zero, suc, ◌+◌, ◌^◌, ◌<◌, ◌≤◌, Bool, true, false, cond, Some}
+use Rattle.std.proofs.Common.{None, Option, List, ◌∷◌, ◌++◌, length, get_or, refl, ap, ◌∙◌, ⊎_elim}
+use Rattle.std.proofs.Common.{slice_index, nat_lt, ◌==◌, arith}
 use Rattle.std.proofs.lemmas.Bool.{eqb-true, eqb-false, ltb-true, cases_lt}
 use Rattle.std.proofs.lemmas.Nat.{le_bytes_2, le_bytes_4, le_bytes_8}
 use Rattle.std.proofs.lemmas.List.{get_or_past, length-map}
@@ -12,7 +14,8 @@ use Rattle.record.specs.declared.heads.Head.{Head}
 use Rattle.record.specs.declared.heads.HeadFault.{HeadFault}
 use Rattle.record.specs.declared.heads.HeadFault.TheVariants.{NoNumber, StraySteps, StraySignals}
 use Rattle.record.specs.Record.{phase_byte, mark_byte, head_bytes}
-use Rattle.record.specs.Taking.{part, phase_in, phase_or_resting, mark_in, marks_read, counted, marks_in, head_in, still_fault, open_fault}
+use Rattle.record.specs.Taking.{part, phase_in, phase_or_resting, mark_in, marks_read, counted}
+use Rattle.record.specs.Taking.{marks_in, head_in, still_fault, open_fault}
 
 pub phase_again : (b : ℕ) → b < 3 → phase_byte (phase_or_resting (phase_in b)) ≡ b
 phase_again zero l = refl
@@ -43,24 +46,30 @@ module _ (n : ℕ) (bytes : List ℕ) where
   unfolding marks_read
   length-marks_read = length-map-range_with_len (λ i. mark_in (slice_index bytes (23 + i))) 0 n
 
-  pub at-marks_read : (i : ℕ) → i < n → get_or (marks_read n bytes) i (Some Idle) ≡ mark_in (slice_index bytes (23 + i))
+  pub at-marks_read : (i : ℕ) → i < n
+      → get_or (marks_read n bytes) i (Some Idle) ≡ mark_in (slice_index bytes (23 + i))
   unfolding marks_read
-  at-marks_read i l = get_or-map-range_with_len (λ (k : ℕ). mark_in (slice_index bytes (23 + k))) 0 n i i (Some Idle) l (omega arith)
+  at-marks_read i l = get_or-map-range_with_len
+      (λ (k : ℕ). mark_in (slice_index bytes (23 + k))) 0 n i i (Some Idle) l (omega arith)
 
   pub length-marks_in : length (marks_in n bytes) ≡ n
   length-marks_in = length-map (marks_read n bytes) counted ∙ length-marks_read
 
-  pub at-marks_in : (i : ℕ) → i < n → at (marks_in n bytes) i ≡ counted (mark_in (slice_index bytes (23 + i)))
-  at-marks_in i l = get_or-map counted (marks_read n bytes) i (Some Idle) ∙ ap counted (at-marks_read i l)
+  pub at-marks_in : (i : ℕ) → i < n
+      → at (marks_in n bytes) i ≡ counted (mark_in (slice_index bytes (23 + i)))
+  at-marks_in i l = get_or-map counted (marks_read n bytes) i (Some Idle)
+      ∙ ap counted (at-marks_read i l)
 
   pub marks_in_past : (i : ℕ) → n ≤ i → at (marks_in n bytes) i ≡ Idle
   marks_in_past i l = let m = length-marks_in in get_or_past (marks_in n bytes) i Idle (omega arith)
 
-passes : (b : Bool) (o : Option HeadFault) (k : HeadFault) → cond b o (Some k) ≡ None → (b ≡ true) × (o ≡ None)
+passes : (b : Bool) (o : Option HeadFault) (k : HeadFault) → cond b o (Some k) ≡ None
+    → (b ≡ true) × (o ≡ None)
 passes true o k e = (refl, e)
 passes false o k e = absurd (cc)
 
-stops : (b : Bool) (o : Option HeadFault) (k : HeadFault) → cond b (Some k) o ≡ None → (b ≡ false) × (o ≡ None)
+stops : (b : Bool) (o : Option HeadFault) (k : HeadFault) → cond b (Some k) o ≡ None
+    → (b ≡ false) × (o ≡ None)
 stops true o k e = absurd (cc)
 stops false o k e = (refl, e)
 
@@ -70,21 +79,29 @@ still_zeros h e =
     let p = passes (h.steps == 0) (cond (h.present == 0) None (Some StraySignals)) StraySteps e in
     (eqb-true h.steps 0 p.0, eqb-true h.present 0 (passes (h.present == 0) None StraySignals p.1).0)
 
-pub open_bounds : (g : ℕ) (h : Head) → open_fault g h ≡ None → (h.closed ≡ 4294967295 → ⊥) × (h.present < 2 ^ g)
+pub open_bounds : (g : ℕ) (h : Head) → open_fault g h ≡ None
+    → (h.closed ≡ 4294967295 → ⊥) × (h.present < 2 ^ g)
 open_bounds g h e =
-    let p = stops (h.closed == 4294967295) (cond (nat_lt h.present (2 ^ g)) None (Some StraySignals)) NoNumber e in
-    (eqb-false h.closed 4294967295 p.0, ltb-true h.present (2 ^ g) (passes (nat_lt h.present (2 ^ g)) None StraySignals p.1).0)
+    let p = stops (h.closed == 4294967295)
+    (cond (nat_lt h.present (2 ^ g)) None (Some StraySignals)) NoNumber e in (
+      eqb-false h.closed 4294967295 p.0,
+      ltb-true h.present (2 ^ g) (passes (nat_lt h.present (2 ^ g)) None StraySignals p.1).0,
+    )
 
 -- the numbers of a part are bytes too
-small_part : (bytes : List ℕ) (n p : ℕ) → ((i : ℕ) → get_or bytes i 0 < 256) → (i : ℕ) → get_or (part bytes n p) i 0 < 256
+small_part : (bytes : List ℕ) (n p : ℕ) → ((i : ℕ) → get_or bytes i 0 < 256) → (i : ℕ)
+    → get_or (part bytes n p) i 0 < 256
 small_part bytes n p small i =
     ⊎_elim
-    (λ (l : i < n). let e = get_or-map-range_with_len (slice_index bytes) p n i (p + i) 0 l refl in omega (arith, e, small (p + i)))
-    (λ (l : n ≤ i). let e = get_or_past (part bytes n p) i 0 (omega (arith, length-map-range_with_len (slice_index bytes) p n)) in omega (arith, e))
+    (λ (l : i < n). let e = get_or-map-range_with_len (slice_index bytes) p n i (p + i) 0 l refl in
+    omega (arith, e, small (p + i)))
+    (λ (l : n ≤ i). let e = get_or_past (part bytes n p) i 0
+    (omega (arith, length-map-range_with_len (slice_index bytes) p n)) in omega (arith, e))
     (cases_lt i n)
 
 -- the bytes of the head that was read are the bytes that were there
-pub head_again : (bytes : List ℕ) → ((i : ℕ) → get_or bytes i 0 < 256) → get_or bytes 8 0 < 3 → head_bytes (head_in bytes) ≡ part bytes 15 8
+pub head_again : (bytes : List ℕ) → ((i : ℕ) → get_or bytes i 0 < 256) → get_or bytes 8 0 < 3
+    → head_bytes (head_in bytes) ≡ part bytes 15 8
 unfolding head_in
 head_again bytes small l =
     let p = phase_again (get_or bytes 8 0) l in

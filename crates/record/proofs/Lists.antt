@@ -1,5 +1,6 @@
 -- how many statements and marks a table has, and the marks of a record
-use Rattle.std.proofs.Common.{◌≡◌, ℕ, ◌+◌, ◌≤◌, List, length, map, take, slice_index, vec_items, vec_len, sym, ap, ◌∙◌, arith}
+use Rattle.std.proofs.Common.{◌≡◌, ℕ, ◌+◌, ◌≤◌, List, length, map, take, slice_index, vec_items}
+use Rattle.std.proofs.Common.{vec_len, sym, ap, ◌∙◌, arith}
 use Rattle.std.proofs.lemmas.List.{length-map, take-map}
 use Rattle.std.proofs.lemmas.List.FromFn.{take-map-range_with_len}
 use Rattle.routine.specs.declared.kinds.Statement.{Statement}
@@ -17,15 +18,18 @@ module _ (t : Table) where
   kinds_many = kinds_length (vec_items t.statements) (vec_len t.statements) t.statements.ok.0
 
   pub marks_many : length (marks (vec_items t.statements)) ≡ length (table_kinds t)
-  marks_many = marks_length (vec_items t.statements) (vec_len t.statements) t.statements.ok.0 ∙ sym kinds_many
+  marks_many = marks_length (vec_items t.statements) (vec_len t.statements) t.statements.ok.0
+      ∙ sym kinds_many
 
   pub few_kinds : length (table_kinds t) ≤ 256
   few_kinds = let m = kinds_many in let l = t.most in omega arith
 
 -- the first n marks of a record
-pub read_cut : (n : ℕ) (bytes : List ℕ) → n ≤ 256 → take n (marks_read 256 bytes) ≡ marks_read n bytes
+pub read_cut : (n : ℕ) (bytes : List ℕ) → n ≤ 256
+    → take n (marks_read 256 bytes) ≡ marks_read n bytes
 unfolding marks_read
 read_cut n bytes l = take-map-range_with_len (λ i. mark_in (slice_index bytes (23 + i))) 0 256 n l
 
 pub marks_cut : (n : ℕ) (bytes : List ℕ) → n ≤ 256 → take n (marks_in 256 bytes) ≡ marks_in n bytes
-marks_cut n bytes l = take-map counted n (marks_read 256 bytes) ∙ ap (map counted) (read_cut n bytes l)
+marks_cut n bytes l = take-map counted n (marks_read 256 bytes)
+    ∙ ap (map counted) (read_cut n bytes l)

@@ -1,9 +1,14 @@
 -- the record of a sound state is accepted, and says that state
-use Rattle.std.proofs.Common.{◌≡◌, ℕ, ◌+◌, ◌-◌, ◌^◌, ◌<◌, ◌≤◌, Bool, true, false, not, ◌&&◌, cond, List, length, map, take, drop, None, Some, Option, is_some, get_or, refl, sym, ap, ap₂, ◌∙◌, ⊎_elim, nat_lt, nat_le, ◌==◌, arith, ext_get_or, pow_mono}
+use Rattle.std.proofs.Common.{◌≡◌, ℕ, ◌+◌, ◌-◌, ◌^◌, ◌<◌, ◌≤◌, Bool, true, false, not, ◌&&◌, cond}
+use Rattle.std.proofs.Common.{List, length, map, take, drop, None, Some, Option, is_some, get_or}
+use Rattle.std.proofs.Common.{refl, sym, ap, ap₂, ◌∙◌, ⊎_elim, nat_lt, nat_le, ◌==◌, arith}
+use Rattle.std.proofs.Common.{ext_get_or, pow_mono}
 use Rattle.std.specs.Int.{w16, w32, w64, from_le_bytes}
-use Rattle.std.proofs.lemmas.Bool.{cases_lt, lt-ltb, le-ltb, lt-leb, eq-eqb, ne_eqb, and_left, and_right, or_from, not_from_true, cond-true, cond-false}
+use Rattle.std.proofs.lemmas.Bool.{cases_lt, lt-ltb, le-ltb, lt-leb, eq-eqb, ne_eqb, and_left}
+use Rattle.std.proofs.lemmas.Bool.{and_right, or_from, not_from_true, cond-true, cond-false}
 use Rattle.std.proofs.lemmas.List.{get_or_past}
-use Rattle.std.proofs.lemmas.Nat.{from_le_bytes-to_le_bytes_2, from_le_bytes-to_le_bytes_4, from_le_bytes-to_le_bytes_8}
+use Rattle.std.proofs.lemmas.Nat.{from_le_bytes-to_le_bytes_2, from_le_bytes-to_le_bytes_4}
+use Rattle.std.proofs.lemmas.Nat.{from_le_bytes-to_le_bytes_8}
 use Rattle.routine.specs.declared.kinds.Kind.{Kind}
 use Rattle.routine.specs.declared.kinds.SignalKind.{SignalKind}
 use Rattle.routine.specs.Search.{lowest, any}
@@ -22,11 +27,16 @@ use Rattle.record.specs.declared.heads.HeadFault.TheVariants.{NoNumber, StraySig
 use Rattle.record.specs.Phases.{is_open, is_over}
 use Rattle.record.specs.State.{State}
 use Rattle.record.specs.Sound.{Within, Sound}
-use Rattle.record.specs.Record.{contents, head_bytes, mark_byte, steps_written, word_written, written, head_of, record_of}
-use Rattle.record.specs.Taking.{part, is_fixed, is_wrong, is_fixed_right, has_form, mark_in, counted, phase_in, phase_or_resting, head_in, marks_read, marks_in, fault_by, fault_of, head_fault, breaks, marks_fault, taking_by, taking_refusal, state_in}
+use Rattle.record.specs.Record.{contents, head_bytes, mark_byte, steps_written, word_written}
+use Rattle.record.specs.Record.{written, head_of, record_of}
+use Rattle.record.specs.Taking.{part, is_fixed, is_wrong, is_fixed_right, has_form, mark_in}
+use Rattle.record.specs.Taking.{counted, phase_in, phase_or_resting, head_in, marks_read, marks_in}
+use Rattle.record.specs.Taking.{fault_by, fault_of, head_fault, breaks, marks_fault, taking_by}
+use Rattle.record.specs.Taking.{taking_refusal, state_in}
 use Rattle.record.proofs.Forms.{well_formed}
 use Rattle.record.proofs.Words.{word_below, set_again}
-use Rattle.record.proofs.Places.{in_contents, in_head, in_marks, part_is, length_written, byte_written}
+use Rattle.record.proofs.Places.{in_contents, in_head, in_marks, part_is, length_written}
+use Rattle.record.proofs.Places.{byte_written}
 use Rattle.record.proofs.Fields.{phase_read, mark_read, length-marks_in, at-marks_read, at-marks_in}
 
 everywhere : (P : ℕ → Bool) (n : ℕ) → ((k : ℕ) → k < n → P k ≡ false) → not (any P n) ≡ true
@@ -35,24 +45,29 @@ everywhere P n h = ap (λ o. not (is_some o)) (lowest_none P n h)
 -- what is read from a record that was written
 module _ (n : ℕ) (h : Head) (ms : List Mark) (m : length ms ≡ n) (few : n ≤ 256) where
   in_front : (i : ℕ) → i < 8 → get_or (written n h ms) i 0 ≡ get_or (contents n) i 0
-  in_front i l = byte_written n h ms m few i (omega arith) ∙ in_contents (contents n) (head_bytes h) ms i l
+  in_front i l = byte_written n h ms m few i (omega arith)
+      ∙ in_contents (contents n) (head_bytes h) ms i l
 
   of_mark : (i : ℕ) → 23 ≤ i → i < 279 → get_or (written n h ms) i 0 ≡ mark_byte (at ms (i - 23))
   of_mark i l b = byte_written n h ms m few i b ∙ in_marks (contents n) (head_bytes h) ms i l
 
   behind : (i : ℕ) → 23 + n ≤ i → i < 279 → get_or (written n h ms) i 0 ≡ get_or (contents n) i 0
   behind i l b =
-      of_mark i (omega arith) b ∙ ap mark_byte (get_or_past ms (i - 23) Idle (omega arith)) ∙ sym (get_or_past (contents n) i 0 (omega arith))
+      of_mark i (omega arith) b ∙ ap mark_byte (get_or_past ms (i - 23) Idle (omega arith))
+      ∙ sym (get_or_past (contents n) i 0 (omega arith))
 
-  right_there : (i : ℕ) → get_or (written n h ms) i 0 ≡ get_or (contents n) i 0 → is_wrong n (written n h ms) i ≡ false
-  right_there i e = and_right (is_fixed n i) _ (not_from_true _ (eq-eqb (get_or (written n h ms) i 0) (get_or (contents n) i 0) e))
+  right_there : (i : ℕ) → get_or (written n h ms) i 0 ≡ get_or (contents n) i 0
+      → is_wrong n (written n h ms) i ≡ false
+  right_there i e = and_right (is_fixed n i) _
+      (not_from_true _ (eq-eqb (get_or (written n h ms) i 0) (get_or (contents n) i 0) e))
 
   nothing_wrong : (i : ℕ) → i < 279 → is_wrong n (written n h ms) i ≡ false
   nothing_wrong i l =
       ⊎_elim
       (λ a. right_there i (in_front i a))
       (λ (a : 8 ≤ i). ⊎_elim
-      (λ (b : i < 23 + n). and_left (is_fixed n i) _ (or_from (nat_lt i 8) (nat_le (23 + n) i) (le-ltb i 8 a) (lt-leb (23 + n) i b)))
+      (λ (b : i < 23 + n). and_left (is_fixed n i) _
+      (or_from (nat_lt i 8) (nat_le (23 + n) i) (le-ltb i 8 a) (lt-leb (23 + n) i b)))
       (λ b. right_there i (behind i b l))
       (cases_lt i (23 + n)))
       (cases_lt i 8)
@@ -68,41 +83,55 @@ module _ (n : ℕ) (h : Head) (ms : List Mark) (m : length ms ≡ n) (few : n �
   head_written =
       part_is (written n h ms) (head_bytes h) 15 8 refl
       (λ k l. let j : 8 + k - 8 ≡ k = omega arith in
-      byte_written n h ms m few (8 + k) (omega arith) ∙ in_head (contents n) (head_bytes h) ms (8 + k) (omega arith) (omega arith) ∙ ap (λ i. get_or (head_bytes h) i 0) j)
+      byte_written n h ms m few (8 + k) (omega arith)
+      ∙ in_head (contents n) (head_bytes h) ms (8 + k) (omega arith) (omega arith)
+      ∙ ap (λ i. get_or (head_bytes h) i 0) j)
 
   mark_written : (i : ℕ) → i < 256 → get_or (written n h ms) (23 + i) 0 ≡ mark_byte (at ms i)
-  mark_written i l = let j : 23 + i - 23 ≡ i = omega arith in of_mark (23 + i) (omega arith) (omega arith) ∙ ap (λ k. mark_byte (at ms k)) j
+  mark_written i l = let j : 23 + i - 23 ≡ i = omega arith in
+      of_mark (23 + i) (omega arith) (omega arith) ∙ ap (λ k. mark_byte (at ms k)) j
 
   phase_said : phase_in (get_or (written n h ms) 8 0) ≡ Some h.phase
   phase_said = ap (λ bs. phase_in (get_or bs 0 0)) head_written ∙ phase_read h.phase
 
   -- each statement has a mark
-  mark_said : (i : ℕ) → i < n → is_some (get_or (marks_read n (written n h ms)) i (Some Idle)) ≡ true
-  mark_said i l = ap is_some (at-marks_read n (written n h ms) i l ∙ ap mark_in (mark_written i (omega arith)) ∙ mark_read (at ms i))
+  mark_said : (i : ℕ) → i < n
+      → is_some (get_or (marks_read n (written n h ms)) i (Some Idle)) ≡ true
+  mark_said i l = ap is_some
+      (at-marks_read n (written n h ms) i l ∙ ap mark_in (mark_written i (omega arith))
+      ∙ mark_read (at ms i))
 
   marks_same : marks_in n (written n h ms) ≡ ms
   marks_same =
       ext_get_or Idle (marks_in n (written n h ms)) ms (length-marks_in n (written n h ms) ∙ sym m)
       (λ i b. let l : i < n = omega (arith, length-marks_in n (written n h ms)) in
-      at-marks_in n (written n h ms) i l ∙ ap (λ b. counted (mark_in b)) (mark_written i (omega arith)) ∙ ap counted (mark_read (at ms i)))
+      at-marks_in n (written n h ms) i l
+      ∙ ap (λ b. counted (mark_in b)) (mark_written i (omega arith))
+      ∙ ap counted (mark_read (at ms i)))
 
-  head_read : h.closed < 4294967296 → h.steps < 65536 → h.present < 2 ^ 64 → head_in (written n h ms) ≡ h
+  head_read : h.closed < 4294967296 → h.steps < 65536 → h.present < 2 ^ 64
+      → head_in (written n h ms) ≡ h
   unfolding head_in
   head_read c s w =
       let bs = head_written in
       let p = ap phase_or_resting phase_said in
-      let a = ap (λ xs. from_le_bytes w32 (take 4 (drop 1 xs))) bs ∙ from_le_bytes-to_le_bytes_4 h.closed c in
-      let b = ap (λ xs. from_le_bytes w16 (take 2 (drop 5 xs))) bs ∙ from_le_bytes-to_le_bytes_2 h.steps s in
-      let d = ap (λ xs. from_le_bytes w64 (drop 7 xs)) bs ∙ from_le_bytes-to_le_bytes_8 h.present w in
+      let a = ap (λ xs. from_le_bytes w32 (take 4 (drop 1 xs))) bs
+      ∙ from_le_bytes-to_le_bytes_4 h.closed c in
+      let b = ap (λ xs. from_le_bytes w16 (take 2 (drop 5 xs))) bs
+      ∙ from_le_bytes-to_le_bytes_2 h.steps s in
+      let d = ap (λ xs. from_le_bytes w64 (drop 7 xs)) bs
+      ∙ from_le_bytes-to_le_bytes_8 h.present w in
       λ i. record { phase = p i; closed = a i; steps = b i; present = d i }
 
 -- what the fields of a sound state come to
-steps_kept : (p : Phase) (steps : ℕ) → (is_open p ≡ false → steps ≡ 0) → steps_written p steps ≡ steps
+steps_kept : (p : Phase) (steps : ℕ) → (is_open p ≡ false → steps ≡ 0)
+    → steps_written p steps ≡ steps
 steps_kept Resting steps no_steps = sym (no_steps refl)
 steps_kept Open steps no_steps = refl
 steps_kept Over steps no_steps = sym (no_steps refl)
 
-set_kept : (p : Phase) (g : ℕ) (e : Signals) → (is_open p ≡ false → e ≡ empty) → Within g e → length e ≡ 64 → word_set (word_written p g e) ≡ e
+set_kept : (p : Phase) (g : ℕ) (e : Signals) → (is_open p ≡ false → e ≡ empty) → Within g e
+    → length e ≡ 64 → word_set (word_written p g e) ≡ e
 set_kept Resting g e no_signals h l = word_set-zero ∙ sym (no_signals refl)
 set_kept Open g e no_signals h l = set_again e g l h
 set_kept Over g e no_signals h l = word_set-zero ∙ sym (no_signals refl)
@@ -113,51 +142,82 @@ word_fits Open g e few = omega (arith, word_below (λ s. get_or e s false) g 0, 
 word_fits Over g e few = omega arith
 
 -- the head of such a state has no fault
-pub no_fault : (p : Phase) (g closed steps : ℕ) (e : Signals) → (is_open p ≡ true → closed < 4294967295)
-    → fault_by p g (record { phase = p; closed = closed; steps = steps_written p steps; present = word_written p g e }) ≡ None
+pub no_fault : (p : Phase) (g closed steps : ℕ) (e : Signals)
+    → (is_open p ≡ true → closed < 4294967295)
+    → fault_by p g (record {
+      phase = p;
+      closed = closed;
+      steps = steps_written p steps;
+      present = word_written p g e;
+    }) ≡ None
 no_fault Resting g closed steps e room = refl
 no_fault Open g closed steps e room =
     let r = room refl in
     let w = word_from (λ s. get_or e s false) g 0 in
-    cond-false (closed == 4294967295) (Some NoNumber) (cond (nat_lt w (2 ^ g)) None (Some StraySignals)) (ne_eqb closed 4294967295 (λ q. absurd (omega arith)))
-    ∙ cond-true (nat_lt w (2 ^ g)) None (Some StraySignals) (lt-ltb w (2 ^ g) (word_below (λ s. get_or e s false) g 0))
+    cond-false (closed == 4294967295) (Some NoNumber)
+    (cond (nat_lt w (2 ^ g)) None (Some StraySignals))
+    (ne_eqb closed 4294967295 (λ q. absurd (omega arith)))
+    ∙ cond-true (nat_lt w (2 ^ g)) None (Some StraySignals)
+    (lt-ltb w (2 ^ g) (word_below (λ s. get_or e s false) g 0))
 no_fault Over g closed steps e room = refl
 
 -- statement i breaks no rule
-unbroken : (ks : List Kind) (p : Phase) (ms : List (Option Mark)) (i : ℕ) → is_some (get_or ms i (Some Idle)) ≡ true → keeps (is_open p) ks (map counted ms) i ≡ true
+unbroken : (ks : List Kind) (p : Phase) (ms : List (Option Mark)) (i : ℕ)
+    → is_some (get_or ms i (Some Idle)) ≡ true → keeps (is_open p) ks (map counted ms) i ≡ true
     → (is_over p ≡ true → over (tree_at ks 0) (map counted ms) ≡ true) → breaks ks p ms i ≡ false
 unbroken ks p ms i l k f =
     or_from (not (is_some (get_or ms i (Some Idle)))) _ (not_from_true _ l)
-    (or_from (not (keeps (is_open p) ks (map counted ms) i)) _ (not_from_true _ k) (and_right (i == 0) _ (ended (is_over p) (over (tree_at ks 0) (map counted ms)) f)))
+    (or_from (not (keeps (is_open p) ks (map counted ms) i)) _ (not_from_true _ k)
+    (and_right (i == 0) _ (ended (is_over p) (over (tree_at ks 0) (map counted ms)) f)))
   where
     ended : (a b : Bool) → (a ≡ true → b ≡ true) → (a && not b) ≡ false
     ended true b h = not_from_true b (h refl)
     ended false b h = refl
 
 -- what is read then passes both tests
-head_passes : (g : ℕ) (bytes : List ℕ) (h : Head) → head_in bytes ≡ h → phase_in (get_or bytes 8 0) ≡ Some h.phase → fault_by h.phase g h ≡ None → head_fault g bytes ≡ None
+head_passes : (g : ℕ) (bytes : List ℕ) (h : Head) → head_in bytes ≡ h
+    → phase_in (get_or bytes 8 0) ≡ Some h.phase → fault_by h.phase g h ≡ None
+    → head_fault g bytes ≡ None
 unfolding head_fault
 head_passes g bytes h e p f = ap₂ (λ (o : Option Phase) (k : Head). fault_of o g k) p e ∙ f
 
 marks_pass : (ks : List Kind) (bytes : List ℕ) (h : Head) → head_in bytes ≡ h
-    → ((i : ℕ) → i < length ks → breaks ks h.phase (marks_read (length ks) bytes) i ≡ false) → marks_fault ks bytes ≡ None
+    → ((i : ℕ) → i < length ks → breaks ks h.phase (marks_read (length ks) bytes) i ≡ false)
+    → marks_fault ks bytes ≡ None
 unfolding marks_fault
 marks_pass ks bytes h e b =
     ap (λ (k : Head). lowest (breaks ks k.phase (marks_read (length ks) bytes)) (length ks)) e
     ∙ lowest_none (breaks ks h.phase (marks_read (length ks) bytes)) (length ks) b
 
-passed : (b : Bool) (h : Option HeadFault) (m : Option ℕ) → b ≡ true → h ≡ None → m ≡ None → taking_by b h m ≡ None
+passed : (b : Bool) (h : Option HeadFault) (m : Option ℕ) → b ≡ true → h ≡ None → m ≡ None
+    → taking_by b h m ≡ None
 passed b h m e f g = ap₂ (λ c k. taking_by c k m) e f ∙ ap (taking_by true None) g
 
 -- the state that the bytes say, for that head and those marks
-state_read : (n : ℕ) (bytes : List ℕ) (h : Head) (ms : List Mark) → head_in bytes ≡ h → marks_in n bytes ≡ ms
-    → state_in n bytes ≡ record { phase = h.phase; closed = h.closed; steps = h.steps; marks = ms; present = word_set h.present }
+state_read : (n : ℕ) (bytes : List ℕ) (h : Head) (ms : List Mark) → head_in bytes ≡ h
+    → marks_in n bytes ≡ ms
+    → state_in n bytes ≡ record {
+      phase = h.phase;
+      closed = h.closed;
+      steps = h.steps;
+      marks = ms;
+      present = word_set h.present;
+    }
 unfolding head_in
-state_read n bytes h ms e f = λ i. record { phase = (e i).phase; closed = (e i).closed; steps = (e i).steps; marks = f i; present = word_set (e i).present }
+state_read n bytes h ms e f =
+    λ i. record {
+      phase = (e i).phase;
+      closed = (e i).closed;
+      steps = (e i).steps;
+      marks = f i;
+      present = word_set (e i).present;
+    }
 
 -- the record of a head without a fault, over legal marks
-module _ (gs : List SignalKind) (ks : List Kind) (h : Head) (ms : List Mark) (most : length ks ≤ 256) (closed : h.closed < 4294967296) (steps : h.steps < 65536)
-    (word : h.present < 2 ^ 64) (fine : fault_by h.phase (length gs) h ≡ None) (legal : Legal (is_open h.phase) ks ms)
+module _ (gs : List SignalKind) (ks : List Kind) (h : Head) (ms : List Mark)
+    (most : length ks ≤ 256) (closed : h.closed < 4294967296) (steps : h.steps < 65536)
+    (word : h.present < 2 ^ 64) (fine : fault_by h.phase (length gs) h ≡ None)
+    (legal : Legal (is_open h.phase) ks ms)
     (finished : is_over h.phase ≡ true → over (tree_at ks 0) ms ≡ true) where
   abbrev bs : List ℕ
   bs = written (length ks) h ms
@@ -165,8 +225,10 @@ module _ (gs : List SignalKind) (ks : List Kind) (h : Head) (ms : List Mark) (mo
   none_breaks : (i : ℕ) → i < length ks → breaks ks h.phase (marks_read (length ks) bs) i ≡ false
   none_breaks i l =
       let e = marks_same (length ks) h ms legal.many most in
-      unbroken ks h.phase (marks_read (length ks) bs) i (mark_said (length ks) h ms legal.many most i l)
-      (ap (λ ns. keeps (is_open h.phase) ks ns i) e ∙ legal.each i l) (λ o. ap (over (tree_at ks 0)) e ∙ finished o)
+      unbroken ks h.phase (marks_read (length ks) bs) i
+      (mark_said (length ks) h ms legal.many most i l)
+      (ap (λ ns. keeps (is_open h.phase) ks ns i) e ∙ legal.each i l)
+      (λ o. ap (over (tree_at ks 0)) e ∙ finished o)
 
   pub is_taken : taking_refusal gs ks bs ≡ None
   is_taken =
@@ -176,7 +238,8 @@ module _ (gs : List SignalKind) (ks : List Kind) (h : Head) (ms : List Mark) (mo
       (head_passes (length gs) bs h e (phase_said (length ks) h ms legal.many most) fine)
       (marks_pass ks bs h e none_breaks)
 
-module _ (gs : List SignalKind) (ks : List Kind) (s : State) (most : length ks ≤ 256) (few : length gs ≤ 64) (sound : Sound gs ks s) where
+module _ (gs : List SignalKind) (ks : List Kind) (s : State) (most : length ks ≤ 256)
+    (few : length gs ≤ 64) (sound : Sound gs ks s) where
   abbrev h : Head
   h = head_of (length gs) s
 
@@ -184,13 +247,15 @@ module _ (gs : List SignalKind) (ks : List Kind) (s : State) (most : length ks �
   bytes = record_of (length gs) (length ks) s
 
   steps_small : h.steps < 65536
-  steps_small = let e = steps_kept s.phase s.steps sound.no_steps in let f = sound.steps_fit in omega arith
+  steps_small = let e = steps_kept s.phase s.steps sound.no_steps in let f = sound.steps_fit in
+      omega arith
 
   word_small : h.present < 2 ^ 64
   word_small = word_fits s.phase (length gs) s.present few
 
   head_said : head_in bytes ≡ h
-  head_said = head_read (length ks) h s.marks sound.legal.many most sound.closed_fits steps_small word_small
+  head_said =
+      head_read (length ks) h s.marks sound.legal.many most sound.closed_fits steps_small word_small
 
   marks_said : marks_in (length ks) bytes ≡ s.marks
   marks_said = marks_same (length ks) h s.marks sound.legal.many most
@@ -198,15 +263,24 @@ module _ (gs : List SignalKind) (ks : List Kind) (s : State) (most : length ks �
   taken : taking_refusal gs ks bytes ≡ None
   taken =
       is_taken gs ks h s.marks most sound.closed_fits steps_small word_small
-      (no_fault s.phase (length gs) s.closed s.steps s.present sound.room) sound.legal sound.finished
+      (no_fault s.phase
+      (length gs) s.closed s.steps s.present sound.room) sound.legal sound.finished
 
   said : state_in (length ks) bytes ≡ s
   said =
       let p = steps_kept s.phase s.steps sound.no_steps in
       let q = set_kept s.phase (length gs) s.present sound.no_signals sound.within sound.sized in
       state_read (length ks) bytes h s.marks head_said marks_said
-      ∙ (λ i. record { phase = s.phase; closed = s.closed; steps = p i; marks = s.marks; present = q i })
+      ∙ (λ i. record {
+        phase = s.phase;
+        closed = s.closed;
+        steps = p i;
+        marks = s.marks;
+        present = q i;
+      })
 
-pub restored : (gs : List SignalKind) (ks : List Kind) (s : State) → length ks ≤ 256 → length gs ≤ 64 → Sound gs ks s
-    → (taking_refusal gs ks (record_of (length gs) (length ks) s) ≡ None) × (state_in (length ks) (record_of (length gs) (length ks) s) ≡ s)
+pub restored : (gs : List SignalKind) (ks : List Kind) (s : State) → length ks ≤ 256
+    → length gs ≤ 64 → Sound gs ks s
+    → (taking_refusal gs ks (record_of (length gs) (length ks) s) ≡ None)
+    × (state_in (length ks) (record_of (length gs) (length ks) s) ≡ s)
 restored gs ks s most few sound = (taken gs ks s most few sound, said gs ks s most few sound)

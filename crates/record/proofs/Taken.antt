@@ -1,5 +1,6 @@
 -- what is accepted is sound
-use Rattle.std.proofs.Common.{◌≡◌, ℕ, ◌^◌, ◌<◌, true, false, List, length, None, get_or, ap, ◌∙◌, arith}
+use Rattle.std.proofs.Common.{◌≡◌, ℕ, ◌^◌, ◌<◌, true, false, List, length, None, get_or, ap, ◌∙◌}
+use Rattle.std.proofs.Common.{arith}
 use Rattle.std.proofs.lemmas.Nat.{pow_pos}
 use Rattle.routine.specs.declared.kinds.Kind.{Kind}
 use Rattle.routine.specs.declared.kinds.SignalKind.{SignalKind}
@@ -16,7 +17,8 @@ use Rattle.record.proofs.Words.{word_within}
 use Rattle.record.proofs.Fields.{length-marks_in, still_zeros, open_bounds}
 use Rattle.record.proofs.Accepted.{faultless, each_keeps, at_end}
 
-zeros : (p : Phase) (g : ℕ) (h : Head) → fault_by p g h ≡ None → is_open p ≡ false → (h.steps ≡ 0) × (h.present ≡ 0)
+zeros : (p : Phase) (g : ℕ) (h : Head) → fault_by p g h ≡ None → is_open p ≡ false
+    → (h.steps ≡ 0) × (h.present ≡ 0)
 zeros Resting g h e c = still_zeros h e
 zeros Open g h e c = absurd (cc)
 zeros Over g h e c = still_zeros h e
@@ -26,7 +28,8 @@ present_below Resting g h e = let z = still_zeros h e in omega (arith, z.1, pow_
 present_below Open g h e = (open_bounds g h e).1
 present_below Over g h e = let z = still_zeros h e in omega (arith, z.1, pow_pos g)
 
-not_last : (p : Phase) (g : ℕ) (h : Head) → fault_by p g h ≡ None → is_open p ≡ true → h.closed ≡ 4294967295 → ⊥
+not_last : (p : Phase) (g : ℕ) (h : Head) → fault_by p g h ≡ None → is_open p ≡ true
+    → h.closed ≡ 4294967295 → ⊥
 not_last Resting g h e o = absurd (cc)
 not_last Open g h e o = (open_bounds g h e).0
 not_last Over g h e o = absurd (cc)
@@ -39,7 +42,8 @@ module _ (bytes : List ℕ) (small : (i : ℕ) → get_or bytes i 0 < 256) where
   steps_small = omega (arith, small 13, small 14)
 
 -- (of at least one statement: with none, no byte says whether statement 0 is over at the end)
-pub taken_sound : (gs : List SignalKind) (ks : List Kind) (bytes : List ℕ) → 0 < length ks → ((i : ℕ) → get_or bytes i 0 < 256)
+pub taken_sound : (gs : List SignalKind) (ks : List Kind) (bytes : List ℕ) → 0 < length ks
+    → ((i : ℕ) → get_or bytes i 0 < 256)
     → taking_refusal gs ks bytes ≡ None → Sound gs ks (state_in (length ks) bytes)
 unfolding head_in
 taken_sound gs ks bytes some small ok =

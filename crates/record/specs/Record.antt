@@ -1,5 +1,6 @@
 -- the hand-over record: 279 bytes that say what a count is at
-use Rattle.std.specs.Prelude.{ℕ, ◌-◌, List, ◌∷◌, ◌++◌, map, replicate, slice_index_or, slice_index, false, cond, nat_lt}
+use Rattle.std.specs.Prelude.{ℕ, ◌-◌, List, ◌∷◌, ◌++◌, map, replicate, slice_index_or, slice_index}
+use Rattle.std.specs.Prelude.{false, cond, nat_lt}
 use Rattle.std.specs.Int.{w16, w32, w64, to_le_bytes}
 use Rattle.rules.specs.Rules.{Mark, Idle, Waiting, UnderWay, Done, Signals, at}
 use Rattle.rules.specs.Model.{word_from}
@@ -36,10 +37,16 @@ word_written Over g e = 0
 
 -- the head: phase, closed instants, steps, present signals
 abbrev pub head_bytes : Head → List ℕ
-head_bytes h = phase_byte h.phase ∷ (to_le_bytes w32 h.closed ++ (to_le_bytes w16 h.steps ++ to_le_bytes w64 h.present))
+head_bytes h = phase_byte h.phase
+    ∷ (to_le_bytes w32 h.closed ++ (to_le_bytes w16 h.steps ++ to_le_bytes w64 h.present))
 
 abbrev pub head_of : ℕ → State → Head
-head_of g s = record { phase = s.phase; closed = s.closed; steps = steps_written s.phase s.steps; present = word_written s.phase g s.present }
+head_of g s = record {
+  phase = s.phase;
+  closed = s.closed;
+  steps = steps_written s.phase s.steps;
+  present = word_written s.phase g s.present;
+}
 
 -- n marks, and zeros up to the end
 abbrev pub mark_bytes : ℕ → List Mark → List ℕ
@@ -48,9 +55,11 @@ mark_bytes n ms = map mark_byte ms ++ replicate (256 - n) 0
 unfoldable pub written : ℕ → Head → List Mark → List ℕ
 written n h ms = contents n ++ (head_bytes h ++ mark_bytes n ms)
 
--- the same place by place, for those contents and that head: beyond the last mark as if idle ones followed
+-- the same place by place, for those contents and that head: beyond the last mark as if idle ones
+-- followed
 abbrev pub byte_at : List ℕ → List ℕ → List Mark → ℕ → ℕ
-byte_at cs hs ms i = cond (nat_lt i 8) (slice_index cs i) (cond (nat_lt i 23) (slice_index hs (i - 8)) (mark_byte (at ms (i - 23))))
+byte_at cs hs ms i = cond (nat_lt i 8) (slice_index cs i)
+    (cond (nat_lt i 23) (slice_index hs (i - 8)) (mark_byte (at ms (i - 23))))
 
 -- the record of a count with g signals and n statements
 abbrev pub record_of : ℕ → ℕ → State → List ℕ

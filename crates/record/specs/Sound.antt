@@ -13,8 +13,8 @@ use Rattle.record.specs.State.{State}
 abbrev pub Within : ℕ → Signals → Type 0
 Within g e = (s : ℕ) → g ≤ s → slice_index_or e s false ≡ false
 
--- the marks are legal, and at the end statement 0 is over; outside an open instant no step is counted and no signal is present;
--- an open instant has a number; the numbers fit their types
+-- the marks are legal, and at the end statement 0 is over; outside an open instant no step is
+-- counted and no signal is present; an open instant has a number; the numbers fit their types
 pub record Sound (gs : List SignalKind) (ks : List Kind) (s : State) : Type 0 where
   pub legal : Legal (is_open s.phase) ks s.marks
   pub finished : is_over s.phase ≡ true → over (tree_at ks 0) s.marks ≡ true

@@ -1,5 +1,7 @@
 -- which bytes are the record of a sound state, and of which
-use Rattle.std.specs.Prelude.{ℕ, ◌+◌, ◌^◌, Bool, true, false, cond, not, ◌&&◌, ◌||◌, List, length, map, is_some, Some, None, Option, Result, ◌==◌, nat_lt, nat_le, slice_index, slice_index_or}
+use Rattle.std.specs.Prelude.{ℕ, ◌+◌, ◌^◌, Bool, true, false, cond, not, ◌&&◌, ◌||◌, List, length}
+use Rattle.std.specs.Prelude.{map, is_some, Some, None, Option, Result, ◌==◌, nat_lt, nat_le}
+use Rattle.std.specs.Prelude.{slice_index, slice_index_or}
 use Rattle.std.specs.List.{range_with_len}
 use Rattle.std.specs.Int.{w16, w32, w64, from_le_bytes}
 use Rattle.routine.specs.declared.kinds.Kind.{Kind}
@@ -15,7 +17,8 @@ use Rattle.record.specs.declared.phases.Phase.{Phase}
 use Rattle.record.specs.declared.phases.Phase.TheVariants.{Resting, Open, Over}
 use Rattle.record.specs.declared.heads.Head.{Head}
 use Rattle.record.specs.declared.heads.HeadFault.{HeadFault}
-use Rattle.record.specs.declared.heads.HeadFault.TheVariants.{NoPhase, NoNumber, StraySteps, StraySignals}
+use Rattle.record.specs.declared.heads.HeadFault.TheVariants.{NoPhase, NoNumber, StraySteps}
+use Rattle.record.specs.declared.heads.HeadFault.TheVariants.{StraySignals}
 use Rattle.record.specs.declared.records.Saved.{Saved}
 use Rattle.record.specs.Phases.{is_open, is_over}
 use Rattle.record.specs.Answers.{answer}
@@ -26,7 +29,8 @@ use Rattle.record.specs.Record.{contents}
 abbrev pub part : List ℕ → ℕ → ℕ → List ℕ
 part bytes n p = map (slice_index bytes) (range_with_len p n)
 
--- FORM: 279 bytes, the contents for n statements, and zeros after n marks. At these places the bytes have no choice
+-- FORM: 279 bytes, the contents for n statements, and zeros after n marks. At these places the
+-- bytes have no choice
 abbrev pub is_fixed : ℕ → ℕ → Bool
 is_fixed n i = nat_lt i 8 || nat_le (23 + n) i
 
@@ -41,7 +45,8 @@ has_form n bytes = (length bytes == 279) && is_fixed_right n bytes
 
 -- HEAD. A byte above 2 is no phase
 abbrev pub phase_in : ℕ → Option Phase
-phase_in b = cond (b == 0) (Some Resting) (cond (b == 1) (Some Open) (cond (b == 2) (Some Over) None))
+phase_in b = cond (b == 0) (Some Resting)
+    (cond (b == 1) (Some Open) (cond (b == 2) (Some Over) None))
 
 abbrev pub closed_in : List ℕ → ℕ
 closed_in bytes = from_le_bytes w32 (part bytes 4 9)
@@ -59,15 +64,22 @@ phase_or_resting (Some phase) = phase
 
 unfoldable pub head_in : List ℕ → Head
 head_in bytes =
-    record { phase = phase_or_resting (phase_in (slice_index bytes 8)); closed = closed_in bytes; steps = steps_in bytes; present = word_in bytes }
+    record {
+      phase = phase_or_resting (phase_in (slice_index bytes 8));
+      closed = closed_in bytes;
+      steps = steps_in bytes;
+      present = word_in bytes;
+    }
 
 -- outside an open instant the steps and the present word are 0
 abbrev pub still_fault : Head → Option HeadFault
-still_fault h = cond (h.steps == 0) (cond (h.present == 0) None (Some StraySignals)) (Some StraySteps)
+still_fault h = cond (h.steps == 0) (cond (h.present == 0) None (Some StraySignals))
+    (Some StraySteps)
 
 -- an open instant has a number, and no signal from g on is present
 abbrev pub open_fault : ℕ → Head → Option HeadFault
-open_fault g h = cond (h.closed == 4294967295) (Some NoNumber) (cond (nat_lt h.present (2 ^ g)) None (Some StraySignals))
+open_fault g h = cond (h.closed == 4294967295) (Some NoNumber)
+    (cond (nat_lt h.present (2 ^ g)) None (Some StraySignals))
 
 abbrev pub fault_by : Phase → ℕ → Head → Option HeadFault
 fault_by Resting g h = still_fault h
@@ -94,7 +106,8 @@ head_read g bytes = answer (head_fault g bytes) (head_in bytes)
 
 -- MARKS. A byte above 3 is no mark
 abbrev pub mark_in : ℕ → Option Mark
-mark_in b = cond (b == 0) (Some Idle) (cond (b == 1) (Some Waiting) (cond (b == 2) (Some UnderWay) (cond (b == 3) (Some Done) None)))
+mark_in b = cond (b == 0) (Some Idle)
+    (cond (b == 1) (Some Waiting) (cond (b == 2) (Some UnderWay) (cond (b == 3) (Some Done) None)))
 
 unfoldable pub marks_read : ℕ → List ℕ → List (Option Mark)
 marks_read n bytes = map (λ i. mark_in (slice_index bytes (23 + i))) (range_with_len 0 n)
@@ -107,14 +120,17 @@ counted (Some mark) = mark
 abbrev pub marks_in : ℕ → List ℕ → List Mark
 marks_in n bytes = map counted (marks_read n bytes)
 
--- statement i breaks its rule: it has no mark, or marks are not legal there, or statement 0 is not over at the end
+-- statement i breaks its rule: it has no mark, or marks are not legal there, or statement 0 is not
+-- over at the end
 abbrev pub breaks : List Kind → Phase → List (Option Mark) → ℕ → Bool
 breaks ks phase ms i =
     not (is_some (slice_index_or ms i (Some Idle)))
-    || (not (keeps (is_open phase) ks (map counted ms) i) || ((i == 0) && (is_over phase && not (over (tree_at ks 0) (map counted ms)))))
+    || (not (keeps (is_open phase) ks (map counted ms) i)
+    || ((i == 0) && (is_over phase && not (over (tree_at ks 0) (map counted ms)))))
 
 unfoldable pub marks_fault : List Kind → List ℕ → Option ℕ
-marks_fault ks bytes = lowest (breaks ks (head_in bytes).phase (marks_read (length ks) bytes)) (length ks)
+marks_fault ks bytes = lowest (breaks ks (head_in bytes).phase (marks_read (length ks) bytes))
+    (length ks)
 
 -- the first refusal that applies, if one does
 abbrev pub taking_by : Bool → Option HeadFault → Option ℕ → Option Refusal
@@ -124,7 +140,8 @@ taking_by true None (Some i) = Some (RecordMarks i)
 taking_by true None None = None
 
 abbrev pub taking_refusal : List SignalKind → List Kind → List ℕ → Option Refusal
-taking_refusal gs ks bytes = taking_by (has_form (length ks) bytes) (head_fault (length gs) bytes) (marks_fault ks bytes)
+taking_refusal gs ks bytes =
+    taking_by (has_form (length ks) bytes) (head_fault (length gs) bytes) (marks_fault ks bytes)
 
 -- what the bytes say, where none is bad
 abbrev pub saved_in : List ℕ → Saved

@@ -42,7 +42,8 @@ impl Candidate<'_> {
 
     // Is statement i over?
     fn over(&self, i: usize) -> bool
-        ensures { result ≡ over (tree_at (table_kinds self.now.routine.now.table) i) (map counted self.now.marks.now) }
+        ensures { result ≡ over (tree_at (table_kinds self.now.routine.now.table) i)
+            (map counted self.now.marks.now) }
     {
         let kind = self.routine.table.kind(i);
         if self.mark(i) == Mark::Done {
@@ -62,7 +63,8 @@ impl Candidate<'_> {
 
     // Is k statement i or inside it, and not inside a local that is shut?
     fn reached(&self, i: usize, k: usize) -> bool
-        ensures { result ≡ reached (tree_at (table_kinds self.now.routine.now.table) i) (map counted self.now.marks.now) k }
+        ensures { result ≡ reached (tree_at (table_kinds self.now.routine.now.table) i)
+            (map counted self.now.marks.now) k }
     {
         let kind = self.routine.table.kind(i);
         if k == i {
@@ -84,7 +86,8 @@ impl Candidate<'_> {
 
     // Do the marks of statement i and of its parts go together?
     fn row_legal(&self, i: usize) -> bool
-        ensures { result ≡ row_legal (map counted self.now.marks.now) i (shape_at (table_kinds self.now.routine.now.table) i) }
+        ensures { result ≡ row_legal (map counted self.now.marks.now) i
+            (shape_at (table_kinds self.now.routine.now.table) i) }
     {
         match (self.routine.table.kind(i), self.mark(i)) {
             (Kind::Nothing, mark) => matches!(mark, Mark::Idle | Mark::Done),
@@ -115,9 +118,11 @@ impl Candidate<'_> {
         }
     }
 
-    // If statement i is a local that is open: is an instant open, and the local not inside one that is shut?
+    // If statement i is a local that is open: is an instant open, and the local not inside one that
+    // is shut?
     fn open_legal(&self, in_instant: bool, i: usize) -> bool
-        ensures { result ≡ open_legal in_instant (table_kinds self.now.routine.now.table) (map counted self.now.marks.now) i }
+        ensures { result ≡ open_legal in_instant (table_kinds self.now.routine.now.table)
+            (map counted self.now.marks.now) i }
     {
         match (self.routine.table.kind(i), self.mark(i)) {
             (Kind::Local { .. }, Mark::UnderWay) => in_instant && self.reached(0, i),
@@ -127,14 +132,16 @@ impl Candidate<'_> {
 
     // Does statement i keep its rule, where `in_instant` says whether an instant is open?
     fn keeps(&self, in_instant: bool, i: usize) -> bool
-        ensures { result ≡ keeps in_instant (table_kinds self.now.routine.now.table) (map counted self.now.marks.now) i }
+        ensures { result ≡ keeps in_instant (table_kinds self.now.routine.now.table)
+            (map counted self.now.marks.now) i }
     {
         (i != 0 || self.is_live(0)) && self.row_legal(i) && self.open_legal(in_instant, i)
     }
 
     // Does statement i break its rule in a record of that phase?
     fn breaks(&self, phase: Phase, i: usize) -> bool
-        ensures { result ≡ breaks (table_kinds self.now.routine.now.table) phase self.now.marks.now i }
+        ensures { result ≡ breaks
+            (table_kinds self.now.routine.now.table) phase self.now.marks.now i }
     {
         self.read(i).is_none()
             || !self.keeps(phase == Phase::Open, i)
@@ -143,7 +150,9 @@ impl Candidate<'_> {
 
     // The lowest statement that does.
     pub(crate) fn offender(&self, phase: Phase) -> Option<usize>
-        ensures { result ≡ lowest (breaks (table_kinds self.now.routine.now.table) phase self.now.marks.now) (length (table_kinds self.now.routine.now.table)) }
+        ensures { result ≡ lowest
+            (breaks (table_kinds self.now.routine.now.table) phase self.now.marks.now)
+            (length (table_kinds self.now.routine.now.table)) }
     {
         (0..self.routine.count()).find(|&i| self.breaks(phase, i))
     }

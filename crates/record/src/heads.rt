@@ -4,6 +4,9 @@ ghost use Rattle.record.specs.Taking.{fault_by, offset_of};
 
 use crate::phases::Phase;
 
+/// How many instants a count can close: the number of the last one.
+pub const MOST_INSTANTS: u32 = u32::MAX;
+
 // What a count is at, but for its marks: the head of its record.
 #[derive(Clone, Copy, Debug, PartialEq, Eq)]
 pub struct Head {

@@ -7,7 +7,7 @@ mod phases;
 mod records;
 mod standings;
 
-pub use heads::Head;
+pub use heads::{Head, MOST_INSTANTS};
 pub use phases::Phase;
-pub use records::{Saved, read, write};
+pub use records::{RECORD_BYTES, Saved, read, write};
 pub use standings::Standing;

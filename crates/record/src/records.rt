@@ -4,7 +4,8 @@ ghost use Rattle.routine.specs.View.{table_kinds, table_signals};
 ghost use Rattle.rules.specs.Rules.{at};
 ghost use Rattle.record.specs.Answers.{answer};
 ghost use Rattle.record.specs.Record.{contents, written, byte_at};
-ghost use Rattle.record.specs.Taking.{is_wrong, is_fixed_right, head_read, marks_read, counted, taking_refusal, saved_in};
+ghost use Rattle.record.specs.Taking.{is_wrong, is_fixed_right, head_read, marks_read, counted};
+ghost use Rattle.record.specs.Taking.{taking_refusal, saved_in};
 
 use crate::candidates::Candidate;
 use crate::heads::{Head, HeadFault};
@@ -12,6 +13,9 @@ use crate::marks;
 use crate::phases::Phase;
 use crate::standings::Standing;
 use routine::{Mark, Refusal, Routine};
+
+/// How many bytes a record has.
+pub const RECORD_BYTES: usize = 279;
 
 // What a record says: its head, and marks, idle beyond the last statement.
 #[derive(Clone, Copy, Debug, PartialEq, Eq)]
@@ -30,8 +34,11 @@ fn contents_of(routine: &Routine) -> [u8; 8]
 
 // The record of where a count stands, which `read` accepts.
 pub fn write(standing: Standing<'_>) -> [u8; 279]
-    ensures bytes { result ≡ written (length (table_kinds standing.entry.routine.now.table)) standing.entry.head (marks_listed standing.entry.routine.now.table.statements.items) }
-    ensures accepted { taking_refusal (table_signals standing.entry.routine.now.table) (table_kinds standing.entry.routine.now.table) result ≡ None }
+    ensures bytes { result ≡ written
+        (length (table_kinds standing.entry.routine.now.table)) standing.entry.head
+        (marks_listed standing.entry.routine.now.table.statements.items) }
+    ensures accepted { taking_refusal (table_signals standing.entry.routine.now.table)
+        (table_kinds standing.entry.routine.now.table) result ≡ None }
 {
     let routine = standing.routine;
     let contents = contents_of(routine);
@@ -41,7 +48,8 @@ pub fn write(standing: Standing<'_>) -> [u8; 279]
 
 // The byte at place i of a record with those contents and that head.
 fn byte_at(contents: &[u8; 8], head: &[u8; 15], routine: &Routine, i: usize) -> u8
-    ensures { result ≡ byte_at contents.now head.now (marks_listed routine.now.table.statements.items) i }
+    ensures { result ≡ byte_at contents.now head.now
+        (marks_listed routine.now.table.statements.items) i }
 {
     match i {
         0..8 => contents[i],
@@ -115,7 +123,9 @@ fn all_counted(marks: &[Option<Mark>; 256]) -> [Mark; 256]
 }
 
 fn read_whole(bytes: &[u8; 279], routine: &Routine) -> Result<Saved, Refusal>
-    ensures { result ≡ answer (taking_refusal (table_signals routine.now.table) (table_kinds routine.now.table) bytes.now) (saved_in bytes.now) }
+    ensures { result ≡ answer
+        (taking_refusal (table_signals routine.now.table) (table_kinds routine.now.table) bytes.now)
+        (saved_in bytes.now) }
 {
     if !is_fixed_right(bytes, routine) {
         return Err(Refusal::RecordForm);
@@ -142,7 +152,9 @@ fn read_whole(bytes: &[u8; 279], routine: &Routine) -> Result<Saved, Refusal>
 
 // What the record says, or why it is none of the routine.
 pub fn read(bytes: &[u8], routine: &Routine) -> Result<Saved, Refusal>
-    ensures { result ≡ answer (taking_refusal (table_signals routine.now.table) (table_kinds routine.now.table) bytes.now) (saved_in bytes.now) }
+    ensures { result ≡ answer
+        (taking_refusal (table_signals routine.now.table) (table_kinds routine.now.table) bytes.now)
+        (saved_in bytes.now) }
 {
     match bytes.as_array::<279>() {
         Some(bytes) => read_whole(bytes, routine),

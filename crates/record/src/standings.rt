@@ -16,6 +16,10 @@ pub struct Standing<'a> {
     pub head: Head,
     pub routine: &'a Routine,
     ghost faultless: { fault_by head.phase (length (table_signals routine.now.table)) head ≡ None },
-    ghost legal: { ((i : ℕ) → i < length (table_kinds routine.now.table) → keeps (is_open head.phase) (table_kinds routine.now.table) (marks routine.now.table.statements.items) i ≡ true) },
-    ghost finished: { (is_over head.phase ≡ true → over (tree_at (table_kinds routine.now.table) 0) (marks routine.now.table.statements.items) ≡ true) },
+    ghost legal: { ((i : ℕ) → i < length (table_kinds routine.now.table)
+        → keeps (is_open head.phase) (table_kinds routine.now.table)
+        (marks routine.now.table.statements.items) i ≡ true) },
+    ghost finished: { (is_over head.phase ≡ true
+        → over (tree_at (table_kinds routine.now.table) 0)
+        (marks routine.now.table.statements.items) ≡ true) },
 }

@@ -1,5 +1,6 @@
 -- what it says of a state that a call was accepted there
-use Rattle.std.proofs.Common.{◌≡◌, ℕ, Bool, true, false, cond, ltb, List, length, Some, None, Option, refl, arith}
+use Rattle.std.proofs.Common.{◌≡◌, ℕ, Bool, true, false, cond, ltb, List, length, Some, None}
+use Rattle.std.proofs.Common.{Option, refl, arith}
 use Rattle.routine.specs.declared.kinds.Kind.{Kind}
 use Rattle.routine.specs.declared.refusals.Refusal.{Refusal}
 use Rattle.routine.specs.Search.{lowest}
@@ -14,14 +15,16 @@ use Rattle.count.specs.Calls.{step_by, close_by, still_ready}
 pub never_refused : {P : Type 0} {r : Refusal} → Some r ≡ None → P
 never_refused h = absurd (let z : ◌≡◌ {A = ℕ} 0 1 = cc in omega arith)
 
-both_tests : (below here : Bool) (r q : Refusal) → cond below (cond here None (Some r)) (Some q) ≡ None → here ≡ true
+both_tests : (below here : Bool) (r q : Refusal)
+    → cond below (cond here None (Some r)) (Some q) ≡ None → here ≡ true
 both_tests true true r q h = refl
 both_tests true false r q h = never_refused h
 both_tests false here r q h = never_refused h
 
 pub was_ready : (p : Phase) (ks : List Kind) (s : State) (k : ℕ) → step_by p ks s k ≡ None
     → (is_open p ≡ true) × (ready (tree_at ks 0) s.marks s.present k ≡ true)
-was_ready Open ks s k h = (refl, both_tests (ltb k (length ks)) (ready (tree_at ks 0) s.marks s.present k) _ _ h)
+was_ready Open ks s k h =
+    (refl, both_tests (ltb k (length ks)) (ready (tree_at ks 0) s.marks s.present k) _ _ h)
 was_ready Resting ks s k h = never_refused h
 was_ready Over ks s k h = never_refused h
 

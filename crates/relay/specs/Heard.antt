@@ -12,9 +12,11 @@ use Rattle.count.specs.declared.counts.Count.{Count}
 use Rattle.count.specs.Calls.{new_state}
 use Rattle.count.specs.CountView.{kinds_of, signals_of, state_of, SameRoutine}
 use Rattle.relay.specs.declared.news.News.{News}
-use Rattle.relay.specs.declared.news.News.TheVariants.{Begun, Stepped, Closed, Reacted, TakenOver, Refused}
+use Rattle.relay.specs.declared.news.News.TheVariants.{Begun, Stepped, Closed, Reacted, TakenOver}
+use Rattle.relay.specs.declared.news.News.TheVariants.{Refused}
 use Rattle.relay.specs.Asked.{Asked, OfBytes}
-use Rattle.relay.specs.History.{Transition, begins, steps, closes, reacts, takes_over, refuses, transition_of, after_call, trace, after_calls}
+use Rattle.relay.specs.History.{Transition, begins, steps, closes, reacts, takes_over, refuses}
+use Rattle.relay.specs.History.{transition_of, after_call, trace, after_calls}
 use Rattle.relay.specs.Promises.{taken, AsModel, SameInstants}
 
 -- what was heard, and whether something of it was lost, as for want of memory
@@ -37,33 +39,44 @@ hears (Refused r) = refuses r
 
 module _ {B : Type 0} {G : Ghosts B} where
   -- a call on c that leaves d, while what was heard grows from old to new
-  pub record Tells (present : B → List Bool) (c d : Count B G) (call : Asked) (old new : Ear) : Type 0 where
-    pub tells : Grows old new (transition_of (signals_of c) (kinds_of c) (state_of present c) call ∷ [])
-    pub leaves : state_of present d ≡ after_call (signals_of c) (kinds_of c) (state_of present c) call
+  pub record Tells (present : B → List Bool) (c d : Count B G) (call : Asked)
+      (old new : Ear) : Type 0 where
+    pub tells : Grows old new
+        (transition_of (signals_of c) (kinds_of c) (state_of present c) call ∷ [])
+    pub leaves : state_of present d
+        ≡ after_call (signals_of c) (kinds_of c) (state_of present c) call
     pub routine : SameRoutine c d
 
   -- the same of calls one after another
-  pub record TellsAll (present : B → List Bool) (c d : Count B G) (calls : List Asked) (old new : Ear) : Type 0 where
+  pub record TellsAll (present : B → List Bool) (c d : Count B G) (calls : List Asked)
+      (old new : Ear) : Type 0 where
     pub tells : Grows old new (trace (signals_of c) (kinds_of c) (state_of present c) calls)
-    pub leaves : state_of present d ≡ after_calls (signals_of c) (kinds_of c) (state_of present c) calls
+    pub leaves : state_of present d
+        ≡ after_calls (signals_of c) (kinds_of c) (state_of present c) calls
     pub routine : SameRoutine c d
 
--- (of a routine) calls from the state t on, then a record, then later calls, while what was heard grows from old to new
-module _ (gs : List SignalKind) (ks : List Kind) (t : State) (earlier : List Asked) (bytes : List ℕ) (later : List Asked) (old new : Ear) where
+-- (of a routine) calls from the state t on, then a record, then later calls, while what was heard
+-- grows from old to new
+module _ (gs : List SignalKind) (ks : List Kind) (t : State) (earlier : List Asked) (bytes : List ℕ)
+    (later : List Asked) (old new : Ear) where
   -- whatever calls the record comes from: what is heard goes on where they left their count
   abbrev pub GoesOn : Type 0
   GoesOn =
-      (cs : List Asked) → OfBytes cs → bytes ≡ record_of (length gs) (length ks) (after_calls gs ks (new_state ks) cs)
-      → Grows old new (trace gs ks t earlier ++ (takes_over ∷ trace gs ks (after_calls gs ks (new_state ks) cs) later))
+      (cs : List Asked) → OfBytes cs
+      → bytes ≡ record_of (length gs) (length ks) (after_calls gs ks (new_state ks) cs)
+      → Grows old new (trace gs ks t earlier
+      ++ (takes_over ∷ trace gs ks (after_calls gs ks (new_state ks) cs) later))
 
-  -- a record that is refused: that is heard, and what is heard goes on where the earlier calls ended
+  -- a record that is refused: that is heard, and what is heard goes on where the earlier calls
+  -- ended
   abbrev pub StaysWhereRefused : Type 0
   StaysWhereRefused =
       (r : Refusal) → taking_refusal gs ks bytes ≡ Some r
-      → Grows old new (trace gs ks t earlier ++ (refuses r ∷ trace gs ks (after_calls gs ks t earlier) later))
+      → Grows old new (trace gs ks t earlier
+      ++ (refuses r ∷ trace gs ks (after_calls gs ks t earlier) later))
 
--- what was heard in a relay: ps of the calls on the first board, and after the take over qs of those on the second; nothing was
--- lost, and no take over was accepted among them
+-- what was heard in a relay: ps of the calls on the first board, and after the take over qs of
+-- those on the second; nothing was lost, and no take over was accepted among them
 pub record Observation (old new old' new' : Ear) (ps qs : List Transition) : Type 0 where
   pub first : new.lost ≡ false
   pub second : new'.lost ≡ false
@@ -73,8 +86,10 @@ pub record Observation (old new old' new' : Ear) (ps qs : List Transition) : Typ
 
 -- what was heard in a relay is the model's
 abbrev pub ObservedAsModel : List SignalKind → List Kind → Ear → Ear → Ear → Ear → Type 0
-ObservedAsModel gs ks old new old' new' = (ps qs : List Transition) → Observation old new old' new' ps qs → AsModel gs ks (ps ++ qs)
+ObservedAsModel gs ks old new old' new' = (ps qs : List Transition)
+    → Observation old new old' new' ps qs → AsModel gs ks (ps ++ qs)
 
 -- what was heard in two relays of a routine of n statements: the same words give the same instants
 abbrev pub ObservedAlike : ℕ → (a a' b b' c c' d d' : Ear) → Type 0
-ObservedAlike n a a' b b' c c' d d' = (ps qs rs ss : List Transition) → Observation a a' b b' ps qs → Observation c c' d d' rs ss → SameInstants n (ps ++ qs) (rs ++ ss)
+ObservedAlike n a a' b b' c c' d d' = (ps qs rs ss : List Transition) → Observation a a' b b' ps qs
+    → Observation c c' d d' rs ss → SameInstants n (ps ++ qs) (rs ++ ss)

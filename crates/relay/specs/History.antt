@@ -7,11 +7,13 @@ use Rattle.rules.specs.Rules.{Mark}
 use Rattle.record.specs.State.{State}
 use Rattle.record.specs.Taking.{taking_refusal, state_in}
 use Rattle.count.specs.declared.answers.Closing.{Closing}
-use Rattle.count.specs.Calls.{after, begin_refusal, begin_state, step_refusal, step_state, close_refusal, closing, close_state, react_closing, react_state, steps_from}
+use Rattle.count.specs.Calls.{after, begin_refusal, begin_state, step_refusal, step_state}
+use Rattle.count.specs.Calls.{close_refusal, closing, close_state, react_closing, react_state}
+use Rattle.count.specs.Calls.{steps_from}
 use Rattle.relay.specs.Asked.{Asked, begin, step, close, react, take_over}
 
--- what a call came to. A close and a react have the closing and the marks that remain; a react has the statements that it stepped,
--- in their order
+-- what a call came to. A close and a react have the closing and the marks that remain; a react has
+-- the statements that it stepped, in their order
 pub data Transition : Type 0 where
   begins : (word : ℕ) → Transition
   steps : (statement : ℕ) → Transition
@@ -28,9 +30,12 @@ if_accepted (Some r) p = refuses r
 abbrev pub transition_of : List SignalKind → List Kind → State → Asked → Transition
 transition_of gs ks s (begin word) = if_accepted (begin_refusal gs s word) (begins word)
 transition_of gs ks s (step k) = if_accepted (step_refusal ks s k) (steps k)
-transition_of gs ks s close = if_accepted (close_refusal ks s) (closes (closing gs ks s) (close_state ks s).marks)
+transition_of gs ks s close =
+    if_accepted (close_refusal ks s) (closes (closing gs ks s) (close_state ks s).marks)
 transition_of gs ks s (react word) =
-    if_accepted (begin_refusal gs s word) (reacts word (react_closing gs ks s word) (react_state gs ks s word).marks (steps_from ks (begin_state s word)))
+    if_accepted (begin_refusal gs s word)
+    (reacts word (react_closing gs ks s word) (react_state gs ks s word).marks
+    (steps_from ks (begin_state s word)))
 transition_of gs ks s (take_over bytes) = if_accepted (taking_refusal gs ks bytes) takes_over
 
 -- and the state that it leaves
@@ -39,7 +44,8 @@ after_call gs ks s (begin word) = after (begin_refusal gs s word) s (begin_state
 after_call gs ks s (step k) = after (step_refusal ks s k) s (step_state ks s k)
 after_call gs ks s close = after (close_refusal ks s) s (close_state ks s)
 after_call gs ks s (react word) = after (begin_refusal gs s word) s (react_state gs ks s word)
-after_call gs ks s (take_over bytes) = after (taking_refusal gs ks bytes) s (state_in (length ks) bytes)
+after_call gs ks s (take_over bytes) =
+    after (taking_refusal gs ks bytes) s (state_in (length ks) bytes)
 
 -- all of a list
 unfoldable pub trace : List SignalKind → List Kind → State → List Asked → List Transition

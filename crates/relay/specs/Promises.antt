@@ -1,5 +1,6 @@
 -- what is shown of what calls come to
-use Rattle.std.specs.Prelude.{◌≡◌, ℕ, ◌+◌, ◌*◌, ◌≤◌, Bool, true, false, List, [], ◌∷◌, ◌++◌, length, take, map, Some, slice_get}
+use Rattle.std.specs.Prelude.{◌≡◌, ℕ, ◌+◌, ◌*◌, ◌≤◌, Bool, true, false, List, [], ◌∷◌, ◌++◌, length}
+use Rattle.std.specs.Prelude.{take, map, Some, slice_get}
 use Rattle.std.proofs.Math.Decide.{ℕ_discrete}
 use Rattle.routine.specs.declared.kinds.Kind.{Kind}
 use Rattle.routine.specs.declared.kinds.SignalKind.{SignalKind}
@@ -29,8 +30,9 @@ accepted (reacts w c ms v ∷ ps) = w ∷ accepted ps
 accepted (takes_over ∷ ps) = accepted ps
 accepted (refuses r ∷ ps) = accepted ps
 
--- a closed instant: its number, how many steps were accepted in it, react's own included, and what it came to: outputs, status,
--- how often each of the n statements was stepped, the steps that its closing answers, remaining marks
+-- a closed instant: its number, how many steps were accepted in it, react's own included, and what
+-- it came to: outputs, status, how often each of the n statements was stepped, the steps that its
+-- closing answers, remaining marks
 pub record ClosedInstant : Type 0 where
   pub instant : ℕ
   pub accepted_steps : ℕ
@@ -42,7 +44,13 @@ closed_as n c ms v =
     record {
       instant = c.instant;
       accepted_steps = length v;
-      outcome = record { outputs = c.outputs; status = c.status; times = each_below (λ i. occurrences ℕ_discrete i v) n; steps = c.steps; marks = ms };
+      outcome = record {
+        outputs = c.outputs;
+        status = c.status;
+        times = each_below (λ i. occurrences ℕ_discrete i v) n;
+        steps = c.steps;
+        marks = ms;
+      };
     }
 
 -- the instant that p closes, if it closes one, where v was stepped before in an open instant
@@ -73,18 +81,25 @@ abbrev pub left_open : List ℕ → List Transition → List ℕ
 left_open v [] = v
 left_open v (p ∷ ps) = left_open (stepped_then v p) ps
 
--- the k-th closed instant has what the plain model gives for the k-th accepted word, in whatever order its statements were
--- stepped: outputs, status, how often each statement was stepped, steps, remaining marks; they are numbered 1, 2, 3 ..; and no
--- instant has more than 4 accepted steps for each statement
+-- the k-th closed instant has what the plain model gives for the k-th accepted word, in whatever
+-- order its statements were stepped: outputs, status, how often each statement was stepped, steps,
+-- remaining marks; they are numbered 1, 2, 3 ..; and no instant has more than 4 accepted steps for
+-- each statement
 pub record AsModel (gs : List SignalKind) (ks : List Kind) (ps : List Transition) : Type 0 where
-  pub instants : map (λ (e : ClosedInstant). e.outcome) (closed_instants (length ks) [] ps) ≡ take (length (closed_instants (length ks) [] ps)) (model gs ks (accepted ps))
-  pub numbers : (k : ℕ) (e : ClosedInstant) → slice_get (closed_instants (length ks) [] ps) k ≡ Some e → e.instant ≡ k + 1
-  pub counted : (k : ℕ) (e : ClosedInstant) → slice_get (closed_instants (length ks) [] ps) k ≡ Some e → e.outcome.steps ≡ e.accepted_steps
-  pub closed_steps : (k : ℕ) (e : ClosedInstant) → slice_get (closed_instants (length ks) [] ps) k ≡ Some e → e.accepted_steps ≤ 4 * length ks
+  pub instants : map (λ (e : ClosedInstant). e.outcome) (closed_instants (length ks) [] ps)
+      ≡ take (length (closed_instants (length ks) [] ps)) (model gs ks (accepted ps))
+  pub numbers : (k : ℕ) (e : ClosedInstant)
+      → slice_get (closed_instants (length ks) [] ps) k ≡ Some e → e.instant ≡ k + 1
+  pub counted : (k : ℕ) (e : ClosedInstant)
+      → slice_get (closed_instants (length ks) [] ps) k ≡ Some e
+      → e.outcome.steps ≡ e.accepted_steps
+  pub closed_steps : (k : ℕ) (e : ClosedInstant)
+      → slice_get (closed_instants (length ks) [] ps) k ≡ Some e → e.accepted_steps ≤ 4 * length ks
   pub open_steps : length (left_open [] ps) ≤ 4 * length ks
 
 -- where the first words are equal, the instants of those words end alike
 abbrev pub SameInstants : ℕ → List Transition → List Transition → Type 0
 SameInstants n ps qs =
     (k : ℕ) → take (k + 1) (accepted ps) ≡ take (k + 1) (accepted qs)
-    → (a b : ClosedInstant) → slice_get (closed_instants n [] ps) k ≡ Some a → slice_get (closed_instants n [] qs) k ≡ Some b → a ≡ b
+    → (a b : ClosedInstant) → slice_get (closed_instants n [] ps) k ≡ Some a
+    → slice_get (closed_instants n [] qs) k ≡ Some b → a ≡ b

@@ -15,9 +15,10 @@ use Rattle.relay.specs.Heard.{Ear, Grows}
 use Rattle.relay.specs.declared.relays.Relayed.{Relayed}
 
 -- (of a routine) boards that show their signals by `first` and `second`
-module _ {A B : Type 0} (first : A → List Bool) (second : B → List Bool) (gs : List SignalKind) (ks : List Kind) where
-  -- a count is handed over in state s, and the calls ds follow on the second board: what its listener hears, both records, and
-  -- both boards as they are left
+module _ {A B : Type 0} (first : A → List Bool) (second : B → List Bool) (gs : List SignalKind)
+    (ks : List Kind) where
+  -- a count is handed over in state s, and the calls ds follow on the second board: what its
+  -- listener hears, both records, and both boards as they are left
   pub record HandsOn (s : State) (ds : List Asked) (old new : Ear) (r : Relayed A B) : Type 0 where
     pub handed : r.handed ≡ record_of (length gs) (length ks) s
     pub later : Grows old new (takes_over ∷ trace gs ks s ds)
@@ -35,7 +36,8 @@ abbrev pub at_last : List SignalKind → List Kind → List Asked → List Asked
 at_last gs ks cs ds = after_calls gs ks (after_calls gs ks (new_state ks) cs) ds
 
 -- a routine as a count left it
-pub record LeftAs (gs : List SignalKind) (ks : List Kind) (ms : List Mark) (r : Routine) : Type 0 where
+pub record LeftAs (gs : List SignalKind) (ks : List Kind) (ms : List Mark)
+    (r : Routine) : Type 0 where
   pub signals : table_signals r.table ≡ gs
   pub kinds : table_kinds r.table ≡ ks
   pub marks : marks (vec_items r.table.statements) ≡ ms

@@ -1,7 +1,8 @@
 -- what events tell, and what a keeper has heard
 use Rattle.std.specs.Prelude.{map, vec_items}
 use Rattle.relay.specs.declared.events.Event.{Event}
-use Rattle.relay.specs.declared.events.Event.TheVariants.{Begun, Stepped, Closed, Reacted, TakenOver, Refused}
+use Rattle.relay.specs.declared.events.Event.TheVariants.{Begun, Stepped, Closed, Reacted}
+use Rattle.relay.specs.declared.events.Event.TheVariants.{TakenOver, Refused}
 use Rattle.relay.specs.declared.keepers.Keeper.{Keeper}
 use Rattle.relay.specs.Heard.{Ear}
 use Rattle.relay.specs.History.{Transition, begins, steps, closes, reacts, takes_over, refuses}

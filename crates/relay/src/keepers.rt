@@ -65,7 +65,8 @@ impl Keeper {
     }
 
     fn keep(&mut self, news: News<'_>) -> Result<(), AllocError>
-        ensures grows { IfOk result (λ _. Grows (ear_of self.old) (ear_of self.new) (hears news.entry ∷ [])) }
+        ensures grows { IfOk result
+            (λ _. Grows (ear_of self.old) (ear_of self.new) (hears news.entry ∷ [])) }
     {
         self.events.push(event(self.heap, news)?)?;
         Ok(())
@@ -73,7 +74,8 @@ impl Keeper {
 
     // All that it heard, or want of memory where something of it was lost.
     pub fn events(self) -> Result<Vec<Event>, AllocError>
-        ensures all { IfOk result (λ es. ear_of self ≡ record { heard = map tells (vec_items es); lost = false }) }
+        ensures all { IfOk result
+            (λ es. ear_of self ≡ record { heard = map tells (vec_items es); lost = false }) }
         ensures lost { IfErr result (λ _. (ear_of self).lost ≡ true) }
     {
         if self.lost {

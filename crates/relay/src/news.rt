@@ -1,8 +1,8 @@
 use count::Closing;
 use routine::{Refusal, Statement};
 
-// What a call came to, as a listener hears it. The statements with the marks that remain are lent, and those that a react
-// stepped.
+// What a call came to, as a listener hears it. The statements with the marks that remain are lent,
+// and those that a react stepped.
 #[derive(Clone, Copy, Debug)]
 pub enum News<'a> {
     Begun {

@@ -1,6 +1,7 @@
 ghost use Rattle.std.specs.Prelude.{map, length};
 ghost use Rattle.routine.specs.View.{table_kinds, table_signals};
-ghost use Rattle.count.specs.CountView.{table_kinds as kinds_of, table_signals as signals_of, state_of};
+ghost use Rattle.count.specs.CountView.{table_kinds as kinds_of, table_signals as signals_of};
+ghost use Rattle.count.specs.CountView.{state_of};
 ghost use Rattle.relay.specs.Asked.{asked};
 ghost use Rattle.relay.specs.Heard.{ObservedAsModel, ObservedAlike};
 ghost use Rattle.relay.specs.History.{after_calls};
@@ -23,7 +24,8 @@ pub struct Plan<'a, A, B> {
     pub later: &'a [Call<'a>],
 }
 
-// What a relay leaves: both boards, the record that was handed over, and the one that says where the count was left.
+// What a relay leaves: both boards, the record that was handed over, and the one that says where
+// the count was left.
 #[derive(Debug, Drop)]
 pub struct Relayed<A, B> {
     pub first: A,
@@ -39,8 +41,12 @@ fn hand_on<A: Board, B: Board, L: Listener>(
     later: &[Call<'_>],
     listener: &mut L,
 ) -> (Relayed<A, B>, Routine)
-    ensures tells { HandsOn A.present B.present (signals_of count) (kinds_of count) (state_of A.present count) (map asked later.now) (L.ear listener.old) (L.ear listener.new) result.0 }
-    ensures routine { LeftAs (signals_of count) (kinds_of count) (after_calls (signals_of count) (kinds_of count) (state_of A.present count) (map asked later.now)).marks result.1 }
+    ensures tells { HandsOn A.present B.present (signals_of count) (kinds_of count)
+        (state_of A.present count) (map asked later.now) (L.ear listener.old)
+        (L.ear listener.new) result.0 }
+    ensures routine { LeftAs (signals_of count) (kinds_of count)
+        (after_calls (signals_of count) (kinds_of count) (state_of A.present count)
+        (map asked later.now)).marks result.1 }
 {
     let mut handed = [0; 279];
     let released = count.hand_over(&mut handed);
@@ -58,26 +64,32 @@ fn hand_on<A: Board, B: Board, L: Listener>(
     (relayed, released.routine)
 }
 
-// Carries out the first calls on a new count, hands it over to the other board by its record, and resumes there with the later
-// calls. What the calls come to is told to the listeners, one on each board; nothing is allocated. The routine is given back
-// beside what is left.
+// Carries out the first calls on a new count, hands it over to the other board by its record, and
+// resumes there with the later calls. What the calls come to is told to the listeners, one on each
+// board; nothing is allocated. The routine is given back beside what is left.
 pub fn relay<A: Board, B: Board, K: Listener, L: Listener>(
     routine: Routine,
     plan: Plan<'_, A, B>,
     one: &mut K,
     other: &mut L,
 ) -> (Relayed<A, B>, Routine)
-    ensures tells { Relays A.present B.present (table_signals routine.table) (table_kinds routine.table) (map asked plan.entry.before.now) (map asked plan.entry.later.now) (K.ear one.old) (K.ear one.new) (L.ear other.old) (L.ear other.new) result.0 }
-    ensures routine { LeftAs (table_signals routine.table) (table_kinds routine.table) (at_last (table_signals routine.table) (table_kinds routine.table) (map asked plan.entry.before.now) (map asked plan.entry.later.now)).marks result.1 }
-    ensures model { ObservedAsModel (table_signals routine.table) (table_kinds routine.table) (K.ear one.old) (K.ear one.new) (L.ear other.old) (L.ear other.new) }
+    ensures tells { Relays A.present B.present (table_signals routine.table)
+        (table_kinds routine.table) (map asked plan.entry.before.now)
+        (map asked plan.entry.later.now) (K.ear one.old) (K.ear one.new) (L.ear other.old)
+        (L.ear other.new) result.0 }
+    ensures routine { LeftAs (table_signals routine.table) (table_kinds routine.table)
+        (at_last (table_signals routine.table) (table_kinds routine.table)
+        (map asked plan.entry.before.now) (map asked plan.entry.later.now)).marks result.1 }
+    ensures model { ObservedAsModel (table_signals routine.table) (table_kinds routine.table)
+        (K.ear one.old) (K.ear one.new) (L.ear other.old) (L.ear other.new) }
 {
     let mut count = Count::new(routine, plan.first);
     carry_out_all(&mut count, plan.before, one);
     hand_on(count, plan.second, plan.later, other)
 }
 
-// Two relays of one routine, each on two boards of its own and with two lists of its own: the closed instants that are told of
-// the words that both accept alike are the same.
+// Two relays of one routine, each on two boards of its own and with two lists of its own: the
+// closed instants that are told of the words that both accept alike are the same.
 pub fn relay_twice<
     A: Board,
     B: Board,
@@ -96,12 +108,23 @@ pub fn relay_twice<
     m: &mut M,
     n: &mut N,
 ) -> (Relayed<A, B>, Relayed<C, D>, Routine)
-    ensures one { Relays A.present B.present (table_signals routine.table) (table_kinds routine.table) (map asked plan.entry.before.now) (map asked plan.entry.later.now) (K.ear k.old) (K.ear k.new) (L.ear l.old) (L.ear l.new) result.0 }
-    ensures other { Relays C.present D.present (table_signals routine.table) (table_kinds routine.table) (map asked again.entry.before.now) (map asked again.entry.later.now) (M.ear m.old) (M.ear m.new) (N.ear n.old) (N.ear n.new) result.1 }
-    ensures law { ObservedAlike (length (table_kinds routine.table)) (K.ear k.old) (K.ear k.new) (L.ear l.old) (L.ear l.new) (M.ear m.old) (M.ear m.new) (N.ear n.old) (N.ear n.new) }
-    ensures model { ObservedAsModel (table_signals routine.table) (table_kinds routine.table) (K.ear k.old) (K.ear k.new) (L.ear l.old) (L.ear l.new) }
-    ensures other_model { ObservedAsModel (table_signals routine.table) (table_kinds routine.table) (M.ear m.old) (M.ear m.new) (N.ear n.old) (N.ear n.new) }
-    ensures routine { LeftAs (table_signals routine.table) (table_kinds routine.table) (at_last (table_signals routine.table) (table_kinds routine.table) (map asked again.entry.before.now) (map asked again.entry.later.now)).marks result.2 }
+    ensures one { Relays A.present B.present (table_signals routine.table)
+        (table_kinds routine.table) (map asked plan.entry.before.now)
+        (map asked plan.entry.later.now) (K.ear k.old) (K.ear k.new) (L.ear l.old)
+        (L.ear l.new) result.0 }
+    ensures other { Relays C.present D.present (table_signals routine.table)
+        (table_kinds routine.table) (map asked again.entry.before.now)
+        (map asked again.entry.later.now) (M.ear m.old) (M.ear m.new) (N.ear n.old)
+        (N.ear n.new) result.1 }
+    ensures law { ObservedAlike (length (table_kinds routine.table)) (K.ear k.old) (K.ear k.new)
+        (L.ear l.old) (L.ear l.new) (M.ear m.old) (M.ear m.new) (N.ear n.old) (N.ear n.new) }
+    ensures model { ObservedAsModel (table_signals routine.table) (table_kinds routine.table)
+        (K.ear k.old) (K.ear k.new) (L.ear l.old) (L.ear l.new) }
+    ensures other_model { ObservedAsModel (table_signals routine.table) (table_kinds routine.table)
+        (M.ear m.old) (M.ear m.new) (N.ear n.old) (N.ear n.new) }
+    ensures routine { LeftAs (table_signals routine.table) (table_kinds routine.table)
+        (at_last (table_signals routine.table) (table_kinds routine.table)
+        (map asked again.entry.before.now) (map asked again.entry.later.now)).marks result.2 }
 {
     let (relayed, routine) = relay(routine, plan, k, l);
     let (once_more, routine) = relay(routine, again, m, n);

@@ -9,8 +9,9 @@ use crate::tellings::carry_out_all;
 use count::Count;
 use signals::Board;
 
-// The second half of a relay, on a count in any state: some calls, the record, and the later calls. Where the record is the one
-// that a list of calls left, what is told goes on where that list ended, whatever the count was at before.
+// The second half of a relay, on a count in any state: some calls, the record, and the later calls.
+// Where the record is the one that a list of calls left, what is told goes on where that list
+// ended, whatever the count was at before.
 pub fn resume<B: Board, L: Listener>(
     count: &mut Count<B>,
     earlier: &[Call<'_>],
@@ -18,9 +19,15 @@ pub fn resume<B: Board, L: Listener>(
     later: &[Call<'_>],
     listener: &mut L,
 )
-    ensures tells { TellsAll B.present count.old count.new (map asked earlier.now ++ (take_over handed.now ∷ map asked later.now)) (L.ear listener.old) (L.ear listener.new) }
-    ensures goes_on { GoesOn (signals_of count.old) (kinds_of count.old) (state_of B.present count.old) (map asked earlier.now) handed.now (map asked later.now) (L.ear listener.old) (L.ear listener.new) }
-    ensures refused { StaysWhereRefused (signals_of count.old) (kinds_of count.old) (state_of B.present count.old) (map asked earlier.now) handed.now (map asked later.now) (L.ear listener.old) (L.ear listener.new) }
+    ensures tells { TellsAll B.present count.old count.new
+        (map asked earlier.now ++ (take_over handed.now ∷ map asked later.now)) (L.ear listener.old)
+        (L.ear listener.new) }
+    ensures goes_on { GoesOn (signals_of count.old) (kinds_of count.old)
+        (state_of B.present count.old) (map asked earlier.now) handed.now (map asked later.now)
+        (L.ear listener.old) (L.ear listener.new) }
+    ensures refused { StaysWhereRefused (signals_of count.old) (kinds_of count.old)
+        (state_of B.present count.old) (map asked earlier.now) handed.now (map asked later.now)
+        (L.ear listener.old) (L.ear listener.new) }
 {
     carry_out_all(count, earlier, listener);
     carry_out_all(count, &[Call::TakeOver { record: handed }], listener);

@@ -10,7 +10,8 @@ use signals::Board;
 
 // Each call on a count, told to a listener. Nothing is allocated.
 fn begin<B: Board, L: Listener>(count: &mut Count<B>, word: u64, listener: &mut L)
-    ensures { Tells B.present count.old count.new (begin word) (L.ear listener.old) (L.ear listener.new) }
+    ensures { Tells B.present count.old count.new (begin word) (L.ear listener.old)
+        (L.ear listener.new) }
 {
     match count.begin(word) {
         Ok(()) => listener.hear(News::Begun { word }),
@@ -19,7 +20,8 @@ fn begin<B: Board, L: Listener>(count: &mut Count<B>, word: u64, listener: &mut 
 }
 
 fn step<B: Board, L: Listener>(count: &mut Count<B>, statement: usize, listener: &mut L)
-    ensures { Tells B.present count.old count.new (step statement) (L.ear listener.old) (L.ear listener.new) }
+    ensures { Tells B.present count.old count.new (step statement) (L.ear listener.old)
+        (L.ear listener.new) }
 {
     match count.step(statement) {
         Ok(()) => listener.hear(News::Stepped { statement }),
@@ -40,7 +42,8 @@ fn close<B: Board, L: Listener>(count: &mut Count<B>, listener: &mut L)
 }
 
 fn react<B: Board, L: Listener>(count: &mut Count<B>, word: u64, listener: &mut L)
-    ensures { Tells B.present count.old count.new (react word) (L.ear listener.old) (L.ear listener.new) }
+    ensures { Tells B.present count.old count.new (react word) (L.ear listener.old)
+        (L.ear listener.new) }
 {
     let mut row = StepRow::new();
     match count.react_traced(word, &mut row) {
@@ -55,7 +58,8 @@ fn react<B: Board, L: Listener>(count: &mut Count<B>, word: u64, listener: &mut 
 }
 
 fn take_over<B: Board, L: Listener>(count: &mut Count<B>, handed: &[u8], listener: &mut L)
-    ensures { Tells B.present count.old count.new (take_over handed.now) (L.ear listener.old) (L.ear listener.new) }
+    ensures { Tells B.present count.old count.new (take_over handed.now) (L.ear listener.old)
+        (L.ear listener.new) }
 {
     match count.take_over(handed) {
         Ok(()) => listener.hear(News::TakenOver),
@@ -65,7 +69,8 @@ fn take_over<B: Board, L: Listener>(count: &mut Count<B>, handed: &[u8], listene
 
 // Carries out a call.
 fn carry_out<B: Board, L: Listener>(count: &mut Count<B>, call: &Call<'_>, listener: &mut L)
-    ensures { Tells B.present count.old count.new (asked call.now) (L.ear listener.old) (L.ear listener.new) }
+    ensures { Tells B.present count.old count.new (asked call.now) (L.ear listener.old)
+        (L.ear listener.new) }
 {
     match call {
         Call::Begin { word } => begin(count, *word, listener),
@@ -82,7 +87,8 @@ pub fn carry_out_all<B: Board, L: Listener>(
     calls: &[Call<'_>],
     listener: &mut L,
 )
-    ensures { TellsAll B.present count.old count.new (map asked calls.now) (L.ear listener.old) (L.ear listener.new) }
+    ensures { TellsAll B.present count.old count.new (map asked calls.now) (L.ear listener.old)
+        (L.ear listener.new) }
 {
     for call in calls {
         carry_out(count, call, listener);

@@ -3,13 +3,16 @@ use Rattle.std.proofs.Common.{◌≡◌, ℕ, true, not, List, length, is_some, 
 use Rattle.routine.specs.declared.kinds.SignalKind.{SignalKind}
 use Rattle.routine.specs.declared.kinds.Kind.{Kind}
 use Rattle.routine.specs.declared.refusals.Refusal.{Refusal}
-use Rattle.routine.specs.declared.refusals.Refusal.TheVariants.{Parts, SignalUse, Scope, EndlessLoop}
+use Rattle.routine.specs.declared.refusals.Refusal.TheVariants.{Parts, SignalUse, Scope}
+use Rattle.routine.specs.declared.refusals.Refusal.TheVariants.{EndlessLoop}
 use Rattle.routine.specs.Kinds.{kind_at}
 use Rattle.routine.specs.Search.{lowest}
-use Rattle.routine.specs.Meaning.{is_misnamed, misuses, unscoped, endless, refusing, check_of, passes}
+use Rattle.routine.specs.Meaning.{is_misnamed, misuses, unscoped, endless, refusing, check_of}
+use Rattle.routine.specs.Meaning.{passes}
 
 abbrev pub chain : Option ℕ → Option ℕ → Option ℕ → Option ℕ → Option Refusal
-chain a b c d = refusing a Parts (refusing b SignalUse (refusing c Scope (refusing d EndlessLoop None)))
+chain a b c d = refusing a Parts
+    (refusing b SignalUse (refusing c Scope (refusing d EndlessLoop None)))
 
 module _ (gs : List SignalKind) (ks : List Kind) where
   abbrev pub verdict : Option Refusal
@@ -28,10 +31,12 @@ module _ (gs : List SignalKind) (ks : List Kind) where
   abbrev pub endlessness : Option ℕ
   endlessness = lowest (λ i. endless ks (kind_at ks i)) (length ks)
 
-  pub verdict_by : (a b c d : Option ℕ) → a ≡ misnamed → b ≡ misuse → c ≡ unscope → d ≡ endlessness → verdict ≡ chain a b c d
+  pub verdict_by : (a b c d : Option ℕ) → a ≡ misnamed → b ≡ misuse → c ≡ unscope → d ≡ endlessness
+      → verdict ≡ chain a b c d
   unfolding check_of
   verdict_by a b c d p q r s =
-      ap (λ x. chain x misuse unscope endlessness) (sym p) ∙ ap (λ x. chain a x unscope endlessness) (sym q)
+      ap (λ x. chain x misuse unscope endlessness) (sym p)
+      ∙ ap (λ x. chain a x unscope endlessness) (sym q)
       ∙ ap (λ x. chain a b x endlessness) (sym r) ∙ ap (chain a b c) (sym s)
 
 pub passed : (gs : List SignalKind) (ks : List Kind) → check_of gs ks ≡ None → passes gs ks ≡ true

@@ -1,10 +1,12 @@
 -- one level of the tree, as code takes it
-use Rattle.std.proofs.Common.{◌≡◌, ℕ, zero, suc, ◌<◌, ◌≤◌, true, ◌||◌, eqb, List, length, refl, ap, ◌∙◌, arith, ⊎_elim}
+use Rattle.std.proofs.Common.{◌≡◌, ℕ, zero, suc, ◌<◌, ◌≤◌, true, ◌||◌, eqb, List, length, refl, ap}
+use Rattle.std.proofs.Common.{◌∙◌, arith, ⊎_elim}
 use Rattle.std.proofs.lemmas.Bool.{cases_lt}
 use lib.ListN.{get_or-eq_default}
 use Rattle.routine.specs.declared.kinds.Kind.{Kind}
 use Rattle.routine.specs.declared.kinds.Kind.TheVariants.{Nothing}
-use Rattle.routine.specs.Kinds.{Shape, nothing, no_part, one_part, two_parts, shape, shape_at, kind_at}
+use Rattle.routine.specs.Kinds.{Shape, nothing, no_part, one_part, two_parts, shape, shape_at}
+use Rattle.routine.specs.Kinds.{kind_at}
 use Rattle.routine.specs.Tree.{Tree, leaf, node, tree, tree_at, contains, inside}
 use Rattle.routine.specs.Layout.{fits, Formed}
 use Rattle.routine.specs.View.{PartsRise}
@@ -16,16 +18,19 @@ parts_rise g n i k h = grind arith
 past : (ks : List Kind) (i : ℕ) → length ks ≤ i → (f : ℕ) → tree ks f i ≡ leaf i nothing
 unfolding tree
 past ks i l zero = refl
-past ks i l (suc f) = ap (λ (k : Kind). node i (shape k) (tree ks f)) (get_or-eq_default ks Nothing {n = i} l)
+past ks i l (suc f) = ap (λ (k : Kind). node i (shape k) (tree ks f))
+    (get_or-eq_default ks Nothing {n = i} l)
 
 -- what is no statement has no parts
-level_past : (ks : List Kind) (n i : ℕ) (k : Kind) → length ks ≡ n → n ≤ i → k ≡ kind_at ks i → PartsRise n i (shape k) × (tree_at ks i ≡ node i (shape k) (tree_at ks))
+level_past : (ks : List Kind) (n i : ℕ) (k : Kind) → length ks ≡ n → n ≤ i → k ≡ kind_at ks i
+    → PartsRise n i (shape k) × (tree_at ks i ≡ node i (shape k) (tree_at ks))
 unfolding tree_at
 level_past ks n i k e l r =
     let z : k ≡ Nothing = r ∙ get_or-eq_default ks Nothing {n = i} (omega arith) in
     rw z (tt, past ks i (omega arith) (length ks))
 
-pub level : (g : ℕ) (ks : List Kind) (n i : ℕ) (k : Kind) → Formed g ks → length ks ≡ n → k ≡ kind_at ks i
+pub level : (g : ℕ) (ks : List Kind) (n i : ℕ) (k : Kind) → Formed g ks → length ks ≡ n
+    → k ≡ kind_at ks i
     → PartsRise n i (shape k) × (tree_at ks i ≡ node i (shape k) (tree_at ks))
 level g ks n i k f e r =
     ⊎_elim
@@ -36,11 +41,13 @@ level g ks n i k f e r =
     (cases_lt i n)
 
 -- a statement contains itself and what lies inside it
-pub contains_either : (ks : List Kind) (i k : ℕ) → contains (tree_at ks i) k ≡ (eqb k i || inside (tree_at ks i) k)
+pub contains_either : (ks : List Kind) (i k : ℕ)
+    → contains (tree_at ks i) k ≡ (eqb k i || inside (tree_at ks i) k)
 unfolding tree_at tree
 contains_either ks i k = go (length ks)
   where
-    by_shape : (s : Shape) (sub : ℕ → Tree) → contains (node i s sub) k ≡ (eqb k i || inside (node i s sub) k)
+    by_shape : (s : Shape) (sub : ℕ → Tree)
+        → contains (node i s sub) k ≡ (eqb k i || inside (node i s sub) k)
     by_shape (no_part l) sub = grind arith
     by_shape (one_part l a) sub = refl
     by_shape (two_parts l a b) sub = refl

@@ -1,5 +1,6 @@
 -- a table's rows, as a list of statements
-use Rattle.std.proofs.Common.{◌≡◌, ℕ, ◌+◌, ◌≤◌, cond, sum_by, take, take_all, zero, suc, refl, List, [], ◌∷◌, length, get_or, sym, ap, ◌∙◌, arith}
+use Rattle.std.proofs.Common.{◌≡◌, ℕ, ◌+◌, ◌≤◌, cond, sum_by, take, take_all, zero, suc, refl, List}
+use Rattle.std.proofs.Common.{[], ◌∷◌, length, get_or, sym, ap, ◌∙◌, arith}
 use Rattle.std.proofs.lemmas.List.{get_or-map, length-map}
 use Rattle.std.specs.List.{count_by}
 use Rattle.std.proofs.lemmas.List.Sums.{sum_by_more, sum_by-cons}
@@ -14,9 +15,12 @@ pub kinds_length : (ss : List Statement) (n : ℕ) → n ≡ length ss → lengt
 kinds_length ss n e = length-map ss (λ (y : Statement). y.kind) ∙ sym e
 
 -- signals of one kind, counted
-pub many_counted : (k : SignalKind) (gs : List SignalKind) → count_by (λ g. same g k) gs ≡ how_many k gs
+pub many_counted : (k : SignalKind) (gs : List SignalKind)
+    → count_by (λ g. same g k) gs ≡ how_many k gs
 many_counted k [] = refl
-many_counted k (g ∷ gs) = sum_by-cons (λ x. cond (same x k) 1 0) g gs ∙ ap (λ (n : ℕ). cond (same g k) 1 0 + n) (many_counted k gs)
+many_counted k (g ∷ gs) =
+    sum_by-cons (λ x. cond (same x k) 1 0) g gs
+    ∙ ap (λ (n : ℕ). cond (same g k) 1 0 + n) (many_counted k gs)
 
 -- how often a statement is named, summed over the rows
 module _ (ss : List Statement) (a : ℕ) where
@@ -27,11 +31,14 @@ module _ (ss : List Statement) (a : ℕ) where
   summed zero l = refl
   summed (suc n) l =
       let e : suc n ≡ n + 1 = omega arith in
-      let k : kind_at (kinds ss) n ≡ (get_or ss n (fresh Nothing)).kind = get_or-map (λ (y : Statement). y.kind) ss n (fresh Nothing) Nothing l in
+      let k : kind_at (kinds ss) n ≡ (get_or ss n (fresh Nothing)).kind =
+      get_or-map (λ (y : Statement). y.kind) ss n (fresh Nothing) Nothing l in
       let h = summed n (omega arith) in
       let f = ap (λ (x : Kind). names (shape x) a) k in
       rw e (sum_by_more by_row ss n (fresh Nothing) l ∙ omega (arith, f, h))
 
   pub named_sum : sum_by by_row ss ≡ named (kinds ss) (length (kinds ss)) a
   named_sum =
-      sym (ap (sum_by by_row) (take_all (length ss) ss (omega arith))) ∙ summed (length ss) (omega arith) ∙ ap (λ (n : ℕ). named (kinds ss) n a) (sym (length-map ss (λ (y : Statement). y.kind)))
+      sym (ap (sum_by by_row) (take_all (length ss) ss (omega arith)))
+      ∙ summed (length ss) (omega arith)
+      ∙ ap (λ (n : ℕ). named (kinds ss) n a) (sym (length-map ss (λ (y : Statement). y.kind)))

@@ -1,11 +1,13 @@
 -- where each statement but the first is named once, every number occurs once in the tree
-use Rattle.std.proofs.Common.{◌≡◌, ℕ, zero, suc, ◌+◌, ◌<◌, ◌≤◌, cond, eqb, ltb, ◌⊎◌, List, length, sym, refl, ap, ◌∙◌, subst, inl, inr, arith}
+use Rattle.std.proofs.Common.{◌≡◌, ℕ, zero, suc, ◌+◌, ◌<◌, ◌≤◌, cond, eqb, ltb, ◌⊎◌, List, length}
+use Rattle.std.proofs.Common.{sym, refl, ap, ◌∙◌, subst, inl, inr, arith}
 use native.Mathlib.Decide.{ℕ_discrete, dec_lt}
 use Rattle.routine.specs.declared.kinds.Kind.{Kind}
 use Rattle.routine.specs.Kinds.{Two, Shape, no_part, one_part, two_parts, shape_at}
 use Rattle.routine.specs.Tree.{Tree, leaf, one, two, node, tree_at, occurs, size}
 use Rattle.routine.specs.Meaning.{names, named}
-use Rattle.routine.proofs.Trees.{Part, Rising, In, Under, self, part, trees, under_below, in_under, under_in}
+use Rattle.routine.proofs.Trees.{Part, Rising, In, Under, self, part, trees, under_below, in_under}
+use Rattle.routine.proofs.Trees.{under_in}
 
 -- each statement but the first is named once
 abbrev pub Once : List Kind → Type 0
@@ -15,7 +17,8 @@ Once ks = (a : ℕ) → 1 ≤ a → a < length ks → named ks (length ks) a ≡
 abbrev pub Distinct : Tree → Type 0
 Distinct (leaf n k) = Unit {0}
 Distinct (one n k p) = ¬ (In p n) × Distinct p
-Distinct (two n k p q) = ¬ (In p n) × ¬ (In q n) × ((i : ℕ) → In p i → ¬ (In q i)) × Distinct p × Distinct q
+Distinct (two n k p q) =
+    ¬ (In p n) × ¬ (In q n) × ((i : ℕ) → In p i → ¬ (In q i)) × Distinct p × Distinct q
 
 names_some : (r : Shape) (a : ℕ) → Part r a → 1 ≤ names r a
 names_some r a h = grind arith
@@ -28,15 +31,19 @@ module _ (ks : List Kind) where
   named_more zero i a l = absurd (omega arith)
   named_more (suc n) i a l =
       elim (ℕ_discrete i n) [
-        | yes e ↦ let h : names (shape_at ks i) a ≡ names (shape_at ks n) a = ap (λ j. names (shape_at ks j) a) e in omega arith
+        | yes e ↦ let h : names (shape_at ks i) a ≡ names (shape_at ks n) a =
+            ap (λ j. names (shape_at ks j) a) e in omega arith
         | no d ↦ let h = named_more n i a (omega arith) in omega arith
       ]
 
-  named_both : (n i j a : ℕ) → i < j → j < n → names (shape_at ks i) a + names (shape_at ks j) a ≤ named ks n a
+  named_both : (n i j a : ℕ) → i < j → j < n
+      → names (shape_at ks i) a + names (shape_at ks j) a ≤ named ks n a
   named_both zero i j a b l = absurd (omega arith)
   named_both (suc n) i j a b l =
       elim (ℕ_discrete j n) [
-        | yes e ↦ let h : names (shape_at ks j) a ≡ names (shape_at ks n) a = ap (λ j. names (shape_at ks j) a) e in let g = named_more n i a (omega arith) in omega arith
+        | yes e ↦ let h : names (shape_at ks j) a ≡ names (shape_at ks n) a =
+            ap (λ j. names (shape_at ks j) a) e in let g = named_more n i a (omega arith) in
+            omega arith
         | no d ↦ let h = named_both n i j a b (omega arith) in omega arith
       ]
 
@@ -50,7 +57,8 @@ module _ (ks : List Kind) where
       ]
 
 module _ (ks : List Kind) (S : Rising ks) (O : Once ks) where
-  not_before : (i j a : ℕ) → i < length ks → j < length ks → Part (shape_at ks i) a → Part (shape_at ks j) a → ¬ (i < j)
+  not_before : (i j a : ℕ) → i < length ks → j < length ks → Part (shape_at ks i) a
+      → Part (shape_at ks j) a → ¬ (i < j)
   not_before i j a l m h g b =
       let u = S i l a h in
       let o = O a (omega arith) u.1 in
@@ -59,10 +67,13 @@ module _ (ks : List Kind) (S : Rising ks) (O : Once ks) where
       let z = names_some (shape_at ks j) a g in
       omega arith
 
-  pub one_owner : (i j a : ℕ) → i < length ks → j < length ks → Part (shape_at ks i) a → Part (shape_at ks j) a → i ≡ j
-  one_owner i j a l m h g = let x = not_before i j a l m h g in let y = not_before j i a m l g h in omega arith
+  pub one_owner : (i j a : ℕ) → i < length ks → j < length ks → Part (shape_at ks i) a
+      → Part (shape_at ks j) a → i ≡ j
+  one_owner i j a l m h g = let x = not_before i j a l m h g in let y = not_before j i a m l g h in
+      omega arith
 
-  other_parts : (i : ℕ) → i < length ks → (k : Two) (a b : ℕ) → shape_at ks i ≡ two_parts k a b → ¬ (a ≡ b)
+  other_parts : (i : ℕ) → i < length ks → (k : Two) (a b : ℕ) → shape_at ks i ≡ two_parts k a b
+      → ¬ (a ≡ b)
   other_parts i l k a b e h =
       let p : Part (shape_at ks i) a = rw e (inl refl) in
       let u = S i l a p in
@@ -73,7 +84,8 @@ module _ (ks : List Kind) (S : Rising ks) (O : Once ks) where
       omega arith
 
   -- of two statements that have a third under them, one is under the other
-  comparable : (n p q a : ℕ) → a < n → p < length ks → q < length ks → Under ks p a → Under ks q a → Under ks p q ⊎ Under ks q p
+  comparable : (n p q a : ℕ) → a < n → p < length ks → q < length ks → Under ks p a → Under ks q a
+      → Under ks p q ⊎ Under ks q p
   comparable zero p q a b lp lq u v = absurd (omega arith)
   comparable (suc n) p q a b lp lq self v = inr v
   comparable (suc n) p q a b lp lq (part u h) self = inl (part u h)
@@ -84,7 +96,8 @@ module _ (ks : List Kind) (S : Rising ks) (O : Once ks) where
       let z = S j x.1 a h in
       comparable n p q j (omega arith) lp lq u (rw (← e) at v)
 
-  beside : (i p q : ℕ) → i < length ks → Part (shape_at ks i) p → Part (shape_at ks i) q → ¬ (p ≡ q) → ¬ (Under ks p q)
+  beside : (i p q : ℕ) → i < length ks → Part (shape_at ks i) p → Part (shape_at ks i) q → ¬ (p ≡ q)
+      → ¬ (Under ks p q)
   beside i p q l h g d self = d refl
   beside i p q l h g d (part {j = j} u x) =
       let b = S i l p h in
@@ -92,34 +105,45 @@ module _ (ks : List Kind) (S : Rising ks) (O : Once ks) where
       let e = one_owner i j q l c.1 g x in
       omega arith
 
-  apart : (i p q a : ℕ) → i < length ks → Part (shape_at ks i) p → Part (shape_at ks i) q → ¬ (p ≡ q) → Under ks p a → Under ks q a → ⊥
+  apart : (i p q a : ℕ) → i < length ks → Part (shape_at ks i) p → Part (shape_at ks i) q
+      → ¬ (p ≡ q) → Under ks p a → Under ks q a → ⊥
   apart i p q a l h g d u v =
       let lp = (S i l p h).1 in
       let lq = (S i l q g).1 in
-      elim (comparable (suc a) p q a (omega arith) lp lq u v) [ inl x ↦ beside i p q l h g d x | inr x ↦ beside i q p l g h (λ e. d (sym e)) x ]
+      elim (comparable (suc a) p q a (omega arith) lp lq u v) [
+        | inl x ↦ beside i p q l h g d x
+        | inr x ↦ beside i q p l g h (λ e. d (sym e)) x
+      ]
 
   not_above : (i a : ℕ) → i < length ks → Part (shape_at ks i) a → ¬ (In (tree_at ks a) i)
-  not_above i a l h u = let b = S i l a h in let c = under_below ks S b.1 (in_under ks S a b.1 i u) in omega arith
+  not_above i a l h u = let b = S i l a h in
+      let c = under_below ks S b.1 (in_under ks S a b.1 i u) in omega arith
 
   -- two parts of one statement have nothing in common
-  pub disjoint : (i : ℕ) → i < length ks → (k : Two) (a b : ℕ) → shape_at ks i ≡ two_parts k a b → (j : ℕ) → Under ks a j → ¬ (Under ks b j)
+  pub disjoint : (i : ℕ) → i < length ks → (k : Two) (a b : ℕ) → shape_at ks i ≡ two_parts k a b
+      → (j : ℕ) → Under ks a j → ¬ (Under ks b j)
   disjoint i l k a b e j u v =
       let h : Part (shape_at ks i) a = rw e (inl refl) in
       let g : Part (shape_at ks i) b = rw e (inr refl) in
       apart i a b j l h g (other_parts i l k a b e) u v
 
   pub distinct : (i : ℕ) → i < length ks → Distinct (tree_at ks i)
-  distinct = trees ks S (λ i t. Distinct t) (λ i l g. at_shape i (shape_at ks i) refl (λ a h. (S i l a h).1) (λ a. not_above i a l) (disjoint i l) g)
+  distinct = trees ks S (λ i t. Distinct t)
+      (λ i l g. at_shape i (shape_at ks i) refl (λ a h. (S i l a h).1) (λ a. not_above i a l)
+      (disjoint i l) g)
     where
-      at_shape : (i : ℕ) (r : Shape) → shape_at ks i ≡ r → ((a : ℕ) → Part r a → a < length ks) → ((a : ℕ) → Part r a → ¬ (In (tree_at ks a) i))
-          → ((k : Two) (a b : ℕ) → shape_at ks i ≡ two_parts k a b → (j : ℕ) → Under ks a j → ¬ (Under ks b j))
+      at_shape : (i : ℕ) (r : Shape) → shape_at ks i ≡ r → ((a : ℕ) → Part r a → a < length ks)
+          → ((a : ℕ) → Part r a → ¬ (In (tree_at ks a) i))
+          → ((k : Two) (a b : ℕ) → shape_at ks i ≡ two_parts k a b → (j : ℕ) → Under ks a j
+          → ¬ (Under ks b j))
           → ((a : ℕ) → Part r a → Distinct (tree_at ks a)) → Distinct (node i r (tree_at ks))
       at_shape i (no_part k) e m f d g = tt
       at_shape i (one_part k a) e m f d g = (f a refl, g a refl)
       at_shape i (two_parts k a b) e m f d g = (
         f a (inl refl),
         f b (inr refl),
-        λ j h h'. d k a b e j (in_under ks S a (m a (inl refl)) j h) (in_under ks S b (m b (inr refl)) j h'),
+        λ j h h'. d k a b e j (in_under ks S a (m a (inl refl)) j h)
+            (in_under ks S b (m b (inr refl)) j h'),
         g a (inl refl),
         g b (inr refl),
       )
@@ -146,7 +170,8 @@ at_most : (t : Tree) → Distinct t → (i : ℕ) → occurs t i ≤ 1
 at_most (leaf n k) d i = grind arith
 at_most (one n k p) d i = let h = at_most p d.1 i in let g = misses p i in grind arith
 at_most (two n k p q) d i =
-    let h = at_most p d.3 i in let h' = at_most q d.4 i in let g = misses p i in let g' = misses q i in
+    let h = at_most p d.3 i in let h' = at_most q d.4 i in let g = misses p i in
+    let g' = misses q i in
     let e = d.2 i in
     grind arith
 
@@ -166,7 +191,8 @@ sum_plus f g h e (suc n) = let a = e n in let b = sum_plus f g h e n in omega ar
 
 sum_ones : (f : ℕ → ℕ) (n : ℕ) → ((i : ℕ) → i < n → f i ≡ 1) → sum f n ≡ n
 sum_ones f zero h = refl
-sum_ones f (suc n) h = let a = h n (omega arith) in let b = sum_ones f n (λ i l. h i (omega arith)) in omega arith
+sum_ones f (suc n) h = let a = h n (omega arith) in
+    let b = sum_ones f n (λ i l. h i (omega arith)) in omega arith
 
 sum_none : (m n : ℕ) → n ≤ m → sum (λ i. cond (eqb i m) 1 0) n ≡ 0
 sum_none m zero h = refl
@@ -188,7 +214,8 @@ total (one m k p) n h =
     let c = total p n (λ i g. h i (inr g)) in
     omega arith
 total (two m k p q) n h =
-    let a = sum_plus (occurs (two m k p q)) (λ i. cond (eqb i m) 1 0) (λ i. occurs p i + occurs q i) (λ i. refl) n in
+    let a = sum_plus (occurs (two m k p q)) (λ i. cond (eqb i m) 1 0) (λ i. occurs p i + occurs q i)
+    (λ i. refl) n in
     let a' = sum_plus (λ i. occurs p i + occurs q i) (occurs p) (occurs q) (λ i. refl) n in
     let b = sum_one m n (h m (inl refl)) in
     let c = total p n (λ i g. h i (inr (inl g))) in
@@ -198,7 +225,8 @@ total (two m k p q) n h =
 module _ (ks : List Kind) (S : Rising ks) (O : Once ks) (z : 0 < length ks) where
   once_in : (i : ℕ) → i < length ks → occurs (tree_at ks 0) i ≡ 1
   once_in i l =
-      let a = at_least (tree_at ks 0) i (under_in ks S z (every ks S O (suc i) i z (omega arith) l)) in
+      let a = at_least (tree_at ks 0) i
+      (under_in ks S z (every ks S O (suc i) i z (omega arith) l)) in
       let b = at_most (tree_at ks 0) (distinct ks S O 0 z) i in
       omega arith
 
@@ -207,7 +235,8 @@ module _ (ks : List Kind) (S : Rising ks) (O : Once ks) (z : 0 < length ks) wher
   occurs_once i =
       elim (dec_lt i (length ks)) [
         | yes l ↦ let a = once_in i l in grind arith
-        | no d ↦ let a = misses (tree_at ks 0) i (λ h. let b = under_below ks S z (in_under ks S 0 z i h) in omega arith) in grind arith
+        | no d ↦ let a = misses (tree_at ks 0) i
+            (λ h. let b = under_below ks S z (in_under ks S 0 z i h) in omega arith) in grind arith
       ]
 
   pub whole_size : size (tree_at ks 0) ≡ length ks

@@ -1,12 +1,15 @@
 -- what a table that passes has
-use Rattle.std.proofs.Common.{◌≡◌, ℕ, ◌<◌, true, false, not, List, length, is_some, Some, None, Option, refl, arith}
+use Rattle.std.proofs.Common.{◌≡◌, ℕ, ◌<◌, true, false, not, List, length, is_some, Some, None}
+use Rattle.std.proofs.Common.{Option, refl, arith}
 use Rattle.routine.specs.declared.kinds.SignalKind.{SignalKind}
 use Rattle.routine.specs.declared.kinds.Kind.{Kind}
 use Rattle.routine.specs.declared.refusals.Refusal.{Refusal}
-use Rattle.routine.specs.declared.refusals.Refusal.TheVariants.{Parts, SignalUse, Scope, EndlessLoop}
+use Rattle.routine.specs.declared.refusals.Refusal.TheVariants.{Parts, SignalUse, Scope}
+use Rattle.routine.specs.declared.refusals.Refusal.TheVariants.{EndlessLoop}
 use Rattle.routine.specs.Search.{lowest}
 use Rattle.routine.specs.Kinds.{kind_at}
-use Rattle.routine.specs.Meaning.{is_misnamed, misuses, unscoped, endless, refusing, check_of, passes}
+use Rattle.routine.specs.Meaning.{is_misnamed, misuses, unscoped, endless, refusing, check_of}
+use Rattle.routine.specs.Meaning.{passes}
 use Rattle.routine.proofs.Searches.{none_below}
 use Rattle.routine.proofs.Once.{Once}
 
@@ -17,7 +20,8 @@ pub record Tested (gs : List SignalKind) (ks : List Kind) : Type 0 where
   pub scopes : (i : ℕ) → i < length ks → unscoped gs ks i (kind_at ks i) ≡ false
   pub loops : (i : ℕ) → i < length ks → endless ks (kind_at ks i) ≡ false
 
-nothing_found : (o : Option ℕ) (why : ℕ → Refusal) (later : Option Refusal) → not (is_some (refusing o why later)) ≡ true
+nothing_found : (o : Option ℕ) (why : ℕ → Refusal) (later : Option Refusal)
+    → not (is_some (refusing o why later)) ≡ true
     → (o ≡ None) × (not (is_some later) ≡ true)
 nothing_found None why later h = (refl, h)
 nothing_found (Some i) why later h = absurd (grind arith)

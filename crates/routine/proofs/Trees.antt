@@ -1,5 +1,7 @@
--- the tree of a table that has its form: it does not depend on the fuel, and what holds of it is shown from the parts up
-use Rattle.std.proofs.Common.{◌≡◌, ℕ, zero, suc, ◌+◌, ◌<◌, ◌≤◌, true, ◌⊎◌, List, length, sym, refl, ap, subst, ap₂, inl, inr, arith}
+-- the tree of a table that has its form: it does not depend on the fuel, and what holds of it is
+-- shown from the parts up
+use Rattle.std.proofs.Common.{◌≡◌, ℕ, zero, suc, ◌+◌, ◌<◌, ◌≤◌, true, ◌⊎◌, List, length, sym, refl}
+use Rattle.std.proofs.Common.{ap, subst, ap₂, inl, inr, arith}
 use Rattle.routine.specs.declared.kinds.Kind.{Kind}
 use Rattle.routine.specs.Kinds.{Shape, no_part, one_part, two_parts, shape, kind_at, shape_at}
 use Rattle.routine.specs.Tree.{Tree, leaf, one, two, node, tree, tree_at, contains}
@@ -15,7 +17,8 @@ Part (two_parts k p q) a = (a ≡ p) ⊎ (a ≡ q)
 abbrev pub Rising : List Kind → Type 0
 Rising ks = (i : ℕ) → i < length ks → (a : ℕ) → Part (shape_at ks i) a → (i < a) × (a < length ks)
 
-fits_rises : (g n i : ℕ) (k : Kind) → fits g n i k ≡ true → (a : ℕ) → Part (shape k) a → (i < a) × (a < n)
+fits_rises : (g n i : ℕ) (k : Kind) → fits g n i k ≡ true → (a : ℕ) → Part (shape k) a
+    → (i < a) × (a < n)
 fits_rises g n i k h a p = grind arith
 
 pub rising : (g : ℕ) (ks : List Kind) → Formed g ks → Rising ks
@@ -37,7 +40,8 @@ in_contains (leaf n k) i h = grind arith
 in_contains (one n k p) i h = let g = in_contains p i in grind arith
 in_contains (two n k p q) i h = let g = in_contains p i in let f = in_contains q i in grind arith
 
-node_same : (i : ℕ) (r : Shape) (f g : ℕ → Tree) → ((a : ℕ) → Part r a → f a ≡ g a) → node i r f ≡ node i r g
+node_same : (i : ℕ) (r : Shape) (f g : ℕ → Tree) → ((a : ℕ) → Part r a → f a ≡ g a)
+    → node i r f ≡ node i r g
 node_same i (no_part k) f g h = refl
 node_same i (one_part k a) f g h = ap (one i k) (h a refl)
 node_same i (two_parts k a b) f g h = ap₂ (two i k) (h a (inl refl)) (h b (inr refl))
@@ -48,32 +52,39 @@ pub data Under (ks : List Kind) (i : ℕ) : ℕ → Type 0 where
   part : {j a : ℕ} → Under ks i j → Part (shape_at ks j) a → Under ks i a
 
 module _ (ks : List Kind) (S : Rising ks) where
-  pub fuel : (f g i : ℕ) → i < length ks → length ks ≤ i + f → length ks ≤ i + g → tree ks f i ≡ tree ks g i
+  pub fuel : (f g i : ℕ) → i < length ks → length ks ≤ i + f → length ks ≤ i + g
+      → tree ks f i ≡ tree ks g i
   unfolding tree
   fuel zero g i l a b = absurd (omega arith)
   fuel (suc f) zero i l a b = absurd (omega arith)
   fuel (suc f) (suc g) i l a b =
-      node_same i (shape_at ks i) (tree ks f) (tree ks g) (λ p h. let u = S i l p h in fuel f g p u.1 (omega arith) (omega arith))
+      node_same i (shape_at ks i) (tree ks f) (tree ks g)
+      (λ p h. let u = S i l p h in fuel f g p u.1 (omega arith) (omega arith))
 
   pub unroll : (i : ℕ) → i < length ks → tree_at ks i ≡ node i (shape_at ks i) (tree_at ks)
   unfolding tree tree_at
   unroll i l = fuel (length ks) (suc (length ks)) i l (omega arith) (omega arith)
 
   -- induction from the parts to the whole
-  climb : (P : ℕ → Type 0) → ((i : ℕ) → i < length ks → ((a : ℕ) → Part (shape_at ks i) a → P a) → P i) → (f i : ℕ) → i < length ks → length ks ≤ i + f → P i
+  climb : (P : ℕ → Type 0)
+      → ((i : ℕ) → i < length ks → ((a : ℕ) → Part (shape_at ks i) a → P a) → P i) → (f i : ℕ)
+      → i < length ks → length ks ≤ i + f → P i
   climb P h zero i l b = absurd (omega arith)
   climb P h (suc f) i l b = h i l (λ a p. let u = S i l a p in climb P h f a u.1 (omega arith))
 
   -- what holds of a node by its parts holds of the tree of each statement
   pub trees : (P : ℕ → Tree → Type 0)
-      → ((i : ℕ) → i < length ks → ((a : ℕ) → Part (shape_at ks i) a → P a (tree_at ks a)) → P i (node i (shape_at ks i) (tree_at ks)))
+      → ((i : ℕ) → i < length ks → ((a : ℕ) → Part (shape_at ks i) a → P a (tree_at ks a))
+      → P i (node i (shape_at ks i) (tree_at ks)))
       → (i : ℕ) → i < length ks → P i (tree_at ks i)
   trees P h i l =
-      climb (λ i. P i (tree_at ks i)) (λ i l g. subst (P i) (sym (unroll i l)) (h i l g)) (length ks) i l (omega arith)
+      climb (λ i. P i (tree_at ks i)) (λ i l g. subst (P i) (sym (unroll i l)) (h i l g))
+      (length ks) i l (omega arith)
 
   pub under_below : {i j : ℕ} → i < length ks → Under ks i j → (i ≤ j) × (j < length ks)
   under_below l self = (omega arith, l)
-  under_below l (part {j = j} {a = a} u h) = let g = under_below l u in let s = S j g.1 a h in (omega arith, s.1)
+  under_below l (part {j = j} {a = a} u h) = let g = under_below l u in let s = S j g.1 a h in
+      (omega arith, s.1)
 
   pub under_first : {i a j : ℕ} → Part (shape_at ks i) a → Under ks a j → Under ks i j
   under_first h self = part self h
@@ -85,9 +96,11 @@ module _ (ks : List Kind) (S : Rising ks) where
 
   -- a tree's numbers are those under its statement
   pub in_under : (i : ℕ) → i < length ks → (j : ℕ) → In (tree_at ks i) j → Under ks i j
-  in_under = trees (λ i t. (j : ℕ) → In t j → Under ks i j) (λ i l g j h. at_shape i j (shape_at ks i) (λ a e u. under_first {i = i} e (g a e j u)) h)
+  in_under = trees (λ i t. (j : ℕ) → In t j → Under ks i j)
+      (λ i l g j h. at_shape i j (shape_at ks i) (λ a e u. under_first {i = i} e (g a e j u)) h)
     where
-      at_shape : (i j : ℕ) (r : Shape) → ((a : ℕ) → Part r a → In (tree_at ks a) j → Under ks i j) → In (node i r (tree_at ks)) j → Under ks i j
+      at_shape : (i j : ℕ) (r : Shape) → ((a : ℕ) → Part r a → In (tree_at ks a) j → Under ks i j)
+          → In (node i r (tree_at ks)) j → Under ks i j
       at_shape i j (no_part k) g h = subst (Under ks i) (sym h) self
       at_shape i j (one_part k a) g (inl h) = subst (Under ks i) (sym h) self
       at_shape i j (one_part k a) g (inr h) = g a refl h
@@ -104,20 +117,28 @@ module _ (ks : List Kind) (S : Rising ks) where
       root (two_parts k a b) = inl refl
 
   -- what a part has, the whole has
-  in_part : (i j : ℕ) (r : Shape) (a : ℕ) → Part r a → In (tree_at ks a) j → In (node i r (tree_at ks)) j
+  in_part : (i j : ℕ) (r : Shape) (a : ℕ) → Part r a → In (tree_at ks a) j
+      → In (node i r (tree_at ks)) j
   in_part i j (no_part k) a h g = absurd h
   in_part i j (one_part k p) a h g = inr (rw h at g)
   in_part i j (two_parts k p q) a (inl h) g = inr (inl (rw h at g))
   in_part i j (two_parts k p q) a (inr h) g = inr (inr (rw h at g))
 
-  in_grows : (i : ℕ) → i < length ks → (j a : ℕ) → In (tree_at ks i) j → Part (shape_at ks j) a → In (tree_at ks i) a
+  in_grows : (i : ℕ) → i < length ks → (j a : ℕ) → In (tree_at ks i) j → Part (shape_at ks j) a
+      → In (tree_at ks i) a
   in_grows = trees (λ i t. (j a : ℕ) → In t j → Part (shape_at ks j) a → In t a)
-      (λ i l g j a h e. at_shape i j a (shape_at ks i) refl (λ x. root_in a (S i l a x).1) (λ b x u. g b x j a u e) e h)
+      (λ i l g j a h e. at_shape i j a (shape_at ks i) refl (λ x. root_in a (S i l a x).1)
+      (λ b x u. g b x j a u e) e h)
     where
-      own : (i j a : ℕ) (r : Shape) → r ≡ shape_at ks i → (Part (shape_at ks i) a → In (tree_at ks a) a) → Part (shape_at ks j) a → j ≡ i → In (node i r (tree_at ks)) a
-      own i j a r x f e h = let y : Part (shape_at ks i) a = rw h at e in in_part i a r a (rw (← x) at y) (f y)
+      own : (i j a : ℕ) (r : Shape) → r ≡ shape_at ks i
+          → (Part (shape_at ks i) a → In (tree_at ks a) a) → Part (shape_at ks j) a → j ≡ i
+          → In (node i r (tree_at ks)) a
+      own i j a r x f e h = let y : Part (shape_at ks i) a = rw h at e in
+          in_part i a r a (rw (← x) at y) (f y)
 
-      at_shape : (i j a : ℕ) (r : Shape) → r ≡ shape_at ks i → (Part (shape_at ks i) a → In (tree_at ks a) a) → ((b : ℕ) → Part r b → In (tree_at ks b) j → In (tree_at ks b) a)
+      at_shape : (i j a : ℕ) (r : Shape) → r ≡ shape_at ks i
+          → (Part (shape_at ks i) a → In (tree_at ks a) a)
+          → ((b : ℕ) → Part r b → In (tree_at ks b) j → In (tree_at ks b) a)
           → Part (shape_at ks j) a → In (node i r (tree_at ks)) j → In (node i r (tree_at ks)) a
       at_shape i j a (no_part k) x f g e h = own i j a (no_part k) x f e h
       at_shape i j a (one_part k p) x f g e (inl h) = own i j a (one_part k p) x f e h

@@ -1,7 +1,8 @@
 -- what a statement is: its parts, and its kind by the number of them
 use Rattle.std.specs.Prelude.{ℕ, List, map, slice_index_or}
 use Rattle.routine.specs.declared.kinds.Kind.{Kind}
-use Rattle.routine.specs.declared.kinds.Kind.TheVariants.{Nothing, Stop, Emit, Wait, Sequence, Parallel, Loop, When, Kill, Local}
+use Rattle.routine.specs.declared.kinds.Kind.TheVariants.{Nothing, Stop, Emit, Wait, Sequence}
+use Rattle.routine.specs.declared.kinds.Kind.TheVariants.{Parallel, Loop, When, Kill, Local}
 use Rattle.routine.specs.declared.kinds.Mark.{Mark}
 use Rattle.routine.specs.declared.kinds.Mark.TheVariants.{Idle}
 use Rattle.routine.specs.declared.kinds.Statement.{Statement}

@@ -1,14 +1,19 @@
 -- the form of a table: which bytes are one, and what they say
-use Rattle.std.specs.Prelude.{◌≡◌, ℕ, ◌+◌, ◌*◌, ◌<◌, Bool, true, cond, ◌&&◌, List, [], ◌∷◌, length, take, drop, Some, None, Ok, Err, Option, Result, MatchResult, ◌==◌, nat_le, nat_lt, slice_index}
+use Rattle.std.specs.Prelude.{◌≡◌, ℕ, ◌+◌, ◌*◌, ◌<◌, Bool, true, cond, ◌&&◌, List, [], ◌∷◌, length}
+use Rattle.std.specs.Prelude.{take, drop, Some, None, Ok, Err, Option, Result, MatchResult, ◌==◌}
+use Rattle.std.specs.Prelude.{nat_le, nat_lt, slice_index}
 use Rattle.routine.specs.declared.kinds.SignalKind.{SignalKind}
 use Rattle.routine.specs.declared.kinds.SignalKind.TheVariants.{Input, Output, Local as Own}
 use Rattle.routine.specs.declared.kinds.Kind.{Kind}
-use Rattle.routine.specs.declared.kinds.Kind.TheVariants.{Nothing, Stop, Emit, Wait, Sequence, Parallel, Loop, When, Kill, Local}
+use Rattle.routine.specs.declared.kinds.Kind.TheVariants.{Nothing, Stop, Emit, Wait, Sequence}
+use Rattle.routine.specs.declared.kinds.Kind.TheVariants.{Parallel, Loop, When, Kill, Local}
 use Rattle.routine.specs.declared.kinds.Statement.{Statement}
 use Rattle.routine.specs.declared.kinds.UnknownSignal.{UnknownSignal}
 use Rattle.routine.specs.declared.kinds.UnknownStatement.{UnknownStatement}
 use Rattle.routine.specs.declared.refusals.Refusal.{Refusal}
-use Rattle.routine.specs.declared.refusals.Refusal.TheVariants.{TableForm, SignalKind as BadSignalKind, StatementRecord}
+use Rattle.routine.specs.declared.refusals.Refusal.TheVariants.{TableForm}
+use Rattle.routine.specs.declared.refusals.Refusal.TheVariants.{SignalKind as BadSignalKind}
+use Rattle.routine.specs.declared.refusals.Refusal.TheVariants.{StatementRecord}
 use Rattle.routine.specs.Kinds.{fresh, kind_at}
 
 -- the number of two bytes at place p, the lower byte first
@@ -35,7 +40,8 @@ headed bytes =
 
 -- what a byte says of a signal
 abbrev pub signal_kind : ℕ → Option SignalKind
-signal_kind b = cond (b == 0) (Some Input) (cond (b == 1) (Some Output) (cond (b == 2) (Some Own) None))
+signal_kind b = cond (b == 0) (Some Input)
+    (cond (b == 1) (Some Output) (cond (b == 2) (Some Own) None))
 
 -- what four bytes say of a statement: the kind is known, and fields that it does not use are 0
 abbrev pub spelled : ℕ → ℕ → ℕ → ℕ → Option Kind
@@ -51,15 +57,18 @@ spelled k s a b =
     (cond (k == 8 && b == 0) (Some (Kill s a))
     (cond (k == 9 && b == 0) (Some (Local s a)) None)))))))))
 
--- what a conversion answers: the signal kind or the statement that the bytes say, or the bytes that say none
+-- what a conversion answers: the signal kind or the statement that the bytes say, or the bytes that
+-- say none
 abbrev pub SaysSignal : ℕ → Result SignalKind UnknownSignal → Type 0
-SaysSignal b r = MatchResult r (λ k. signal_kind b ≡ Some k) (λ e. (signal_kind b ≡ None) × (e.0 ≡ b))
+SaysSignal b r = MatchResult r (λ k. signal_kind b ≡ Some k)
+    (λ e. (signal_kind b ≡ None) × (e.0 ≡ b))
 
 abbrev pub said_by : List ℕ → Option Kind
 said_by r = spelled (slice_index r 0) (slice_index r 1) (slice_index r 2) (slice_index r 3)
 
 abbrev pub SaysStatement : List ℕ → Result Kind UnknownStatement → Type 0
-SaysStatement bs r = MatchResult r (λ k. said_by bs ≡ Some k) (λ e. (said_by bs ≡ None) × (e.0 ≡ bs))
+SaysStatement bs r = MatchResult r (λ k. said_by bs ≡ Some k)
+    (λ e. (said_by bs ≡ None) × (e.0 ≡ bs))
 
 -- a can be a part of statement i, of n
 abbrev pub rises : ℕ → ℕ → ℕ → Bool
@@ -83,7 +92,8 @@ fitting g n i None = None
 fitting g n i (Some k) = cond (fits g n i k) (Some (fresh k)) None
 
 -- what all entries say: the first that says nothing gives its refusal
-abbrev pub onto : {A : Type 0} → Refusal → Option A → Result (List A) Refusal → Result (List A) Refusal
+abbrev pub onto : {A : Type 0} → Refusal → Option A → Result (List A) Refusal
+    → Result (List A) Refusal
 onto e None later = Err e
 onto e (Some x) (Ok xs) = Ok (x ∷ xs)
 onto e (Some x) (Err later) = Err later
@@ -93,7 +103,8 @@ abbrev pub signals_from : ℕ → List ℕ → Result (List SignalKind) Refusal
 signals_from i [] = Ok []
 signals_from i (b ∷ bs) = onto (BadSignalKind i) (signal_kind b) (signals_from (i + 1) bs)
 
--- the statements, of n with g signals; the first has number i. A record: kind, signal, first, second
+-- the statements, of n with g signals; the first has number i. A record: kind, signal, first,
+-- second
 abbrev pub records_from : ℕ → ℕ → ℕ → List ℕ → Result (List Statement) Refusal
 records_from g n i [] = Ok []
 records_from g n i (k ∷ []) = Ok []
@@ -108,17 +119,22 @@ signal_bytes bytes = take (signal_count bytes) (drop 8 bytes)
 abbrev pub record_bytes : List ℕ → List ℕ
 record_bytes bytes = drop (8 + signal_count bytes) bytes
 
-abbrev pub with_statements : List SignalKind → Result (List Statement) Refusal → Result (List SignalKind × List Statement) Refusal
+abbrev pub with_statements : List SignalKind → Result (List Statement) Refusal
+    → Result (List SignalKind × List Statement) Refusal
 with_statements gs (Ok ss) = Ok (gs, ss)
 with_statements gs (Err e) = Err e
 
-abbrev pub with_signals : List ℕ → Result (List SignalKind) Refusal → Result (List SignalKind × List Statement) Refusal
-with_signals bytes (Ok gs) = with_statements gs (records_from (signal_count bytes) (statement_count bytes) 0 (record_bytes bytes))
+abbrev pub with_signals : List ℕ → Result (List SignalKind) Refusal
+    → Result (List SignalKind × List Statement) Refusal
+with_signals bytes (Ok gs) =
+    with_statements gs (records_from (signal_count bytes) (statement_count bytes) 0
+    (record_bytes bytes))
 with_signals bytes (Err e) = Err e
 
 -- the signals and the statements that the bytes say, or why they are no table
 abbrev pub read_of : List ℕ → Result (List SignalKind × List Statement) Refusal
-read_of bytes = cond (headed bytes) (with_signals bytes (signals_from 0 (signal_bytes bytes))) (Err TableForm)
+read_of bytes = cond (headed bytes) (with_signals bytes (signals_from 0 (signal_bytes bytes)))
+    (Err TableForm)
 
 -- each statement's fields fit: what the form asks of records that are read
 abbrev pub Formed : ℕ → List Kind → Type 0

@@ -1,11 +1,14 @@
 -- the tests of a table's meaning; each holds of the statements that fail
-use Rattle.std.specs.Prelude.{ℕ, zero, suc, ◌+◌, Bool, true, false, cond, not, ◌&&◌, List, [], ◌∷◌, length, is_some, Some, None, Option, ◌==◌, slice_index_or}
+use Rattle.std.specs.Prelude.{ℕ, zero, suc, ◌+◌, Bool, true, false, cond, not, ◌&&◌, List, [], ◌∷◌}
+use Rattle.std.specs.Prelude.{length, is_some, Some, None, Option, ◌==◌, slice_index_or}
 use Rattle.routine.specs.declared.kinds.SignalKind.{SignalKind}
 use Rattle.routine.specs.declared.kinds.SignalKind.TheVariants.{Input, Output, Local as Own}
 use Rattle.routine.specs.declared.kinds.Kind.{Kind}
-use Rattle.routine.specs.declared.kinds.Kind.TheVariants.{Nothing, Stop, Emit, Wait, Sequence, Parallel, Loop, When, Kill, Local}
+use Rattle.routine.specs.declared.kinds.Kind.TheVariants.{Nothing, Stop, Emit, Wait, Sequence}
+use Rattle.routine.specs.declared.kinds.Kind.TheVariants.{Parallel, Loop, When, Kill, Local}
 use Rattle.routine.specs.declared.refusals.Refusal.{Refusal}
-use Rattle.routine.specs.declared.refusals.Refusal.TheVariants.{Parts, SignalUse, Scope, EndlessLoop}
+use Rattle.routine.specs.declared.refusals.Refusal.TheVariants.{Parts, SignalUse, Scope}
+use Rattle.routine.specs.declared.refusals.Refusal.TheVariants.{EndlessLoop}
 use Rattle.routine.specs.Search.{lowest, any}
 use Rattle.routine.specs.Kinds.{Shape, no_part, one_part, two_parts, kind_at, shape_at}
 use Rattle.routine.specs.Tree.{tree_at, inside, can_end}

@@ -1,9 +1,17 @@
 -- each refusal: its number, its layer, its place
-use Rattle.std.specs.Prelude.{◌≡◌, ℕ, List, ◌++◌, Some, None, Ok, Err, codes, decimal, Option, Result, MatchResult, IfOk, IsOkAnd}
+use Rattle.std.specs.Prelude.{◌≡◌, ℕ, List, ◌++◌, Some, None, Ok, Err, codes, decimal, Option}
+use Rattle.std.specs.Prelude.{Result, MatchResult, IfOk, IsOkAnd}
 use Rattle.routine.specs.declared.refusals.Refusal.{Refusal}
-use Rattle.routine.specs.declared.refusals.Refusal.TheVariants.{TableForm, SignalKind, StatementRecord, Parts, SignalUse, Scope, EndlessLoop}
-use Rattle.routine.specs.declared.refusals.Refusal.TheVariants.{AlreadyOpen, AlreadyOver, NoInstantLeft, NotInput, NotOpenToStep, NoSuchStatement, NotReady, NotOpenToClose, StillReady}
-use Rattle.routine.specs.declared.refusals.Refusal.TheVariants.{RecordForm, RecordHead, RecordMarks, Memory}
+use Rattle.routine.specs.declared.refusals.Refusal.TheVariants.{TableForm, SignalKind}
+use Rattle.routine.specs.declared.refusals.Refusal.TheVariants.{StatementRecord, Parts, SignalUse}
+use Rattle.routine.specs.declared.refusals.Refusal.TheVariants.{Scope, EndlessLoop}
+use Rattle.routine.specs.declared.refusals.Refusal.TheVariants.{AlreadyOpen, AlreadyOver}
+use Rattle.routine.specs.declared.refusals.Refusal.TheVariants.{NoInstantLeft, NotInput}
+use Rattle.routine.specs.declared.refusals.Refusal.TheVariants.{NotOpenToStep, NoSuchStatement}
+use Rattle.routine.specs.declared.refusals.Refusal.TheVariants.{NotReady, NotOpenToClose}
+use Rattle.routine.specs.declared.refusals.Refusal.TheVariants.{StillReady}
+use Rattle.routine.specs.declared.refusals.Refusal.TheVariants.{RecordForm, RecordHead, RecordMarks}
+use Rattle.routine.specs.declared.refusals.Refusal.TheVariants.{Memory}
 
 abbrev pub number_of : Refusal → Option ℕ
 number_of TableForm = Some 11
@@ -85,13 +93,14 @@ abbrev pub Answers : {A B : Type 0} → Result A Refusal → (B → A) → Resul
 Answers d view (Ok x) = d ≡ Ok (view x)
 Answers d view (Err e) = d ≡ Err e
 
--- the same of an answer that takes memory: what the definition refuses is refused so, whatever memory there is;
--- where it says a value, the answer is that value or want of memory
+-- the same of an answer that takes memory: what the definition refuses is refused so, whatever
+-- memory there is; where it says a value, the answer is that value or want of memory
 abbrev pub AnswersOrMemory : {A B : Type 0} → Result A Refusal → (B → A) → Result B Refusal → Type 0
 AnswersOrMemory (Ok x) view r = MatchResult r (λ t. view t ≡ x) (λ e. e ≡ Memory)
 AnswersOrMemory (Err e) view r = r ≡ Err e
 
 -- the same of a value that says itself whether there is a refusal: its only error is want of memory
-abbrev pub SaysOrMemory : {A B E : Type 0} → Result A Refusal → (B → Result A Refusal) → Result B E → Type 0
+abbrev pub SaysOrMemory : {A B E : Type 0} → Result A Refusal → (B → Result A Refusal) → Result B E
+    → Type 0
 SaysOrMemory (Ok x) said r = IfOk r (λ t. said t ≡ Ok x)
 SaysOrMemory (Err e) said r = IsOkAnd r (λ t. said t ≡ Err e)

@@ -1,5 +1,6 @@
 -- searches below a bound
-use Rattle.std.specs.Prelude.{ℕ, zero, suc, ◌<◌, Bool, true, false, cond, is_some, Some, None, IfNone, IfSome, Option}
+use Rattle.std.specs.Prelude.{ℕ, zero, suc, ◌<◌, Bool, true, false, cond, is_some, Some, None}
+use Rattle.std.specs.Prelude.{IfNone, IfSome, Option}
 
 abbrev pub or_last : Option ℕ → Bool → ℕ → Option ℕ
 or_last None b n = cond b (Some n) None
@@ -14,7 +15,8 @@ lowest P (suc n) = or_last (lowest P n) (P n) n
 abbrev pub any : (ℕ → Bool) → ℕ → Bool
 any P n = is_some (lowest P n)
 
--- what a search below n found, by a test that `says` yes or no of each number: the lowest yes, or no of all
+-- what a search below n found, by a test that `says` yes or no of each number: the lowest yes, or
+-- no of all
 pub record FindsLowest (says : ℕ → Bool → Type 0) (n : ℕ) (r : Option ℕ) : Type 0 where
   pub none : IfNone r ((k : ℕ) → k < n → says k false)
   pub some : IfSome r (λ i. (i < n) × says i true × ((k : ℕ) → k < i → says k false))

@@ -1,11 +1,20 @@
 -- what is written of statements and refusals
-use Rattle.std.specs.Prelude.{ℕ, List, [], ◌∷◌, ◌++◌, Some, None, codes, decimal, slice_index, Option}
+use Rattle.std.specs.Prelude.{ℕ, List, [], ◌∷◌, ◌++◌, Some, None, codes, decimal, slice_index}
+use Rattle.std.specs.Prelude.{Option}
 use Rattle.routine.specs.declared.kinds.Kind.{Kind}
-use Rattle.routine.specs.declared.kinds.Kind.TheVariants.{Nothing, Stop, Emit, Wait, Sequence, Parallel, Loop, When, Kill, Local}
+use Rattle.routine.specs.declared.kinds.Kind.TheVariants.{Nothing, Stop, Emit, Wait, Sequence}
+use Rattle.routine.specs.declared.kinds.Kind.TheVariants.{Parallel, Loop, When, Kill, Local}
 use Rattle.routine.specs.declared.refusals.Refusal.{Refusal}
-use Rattle.routine.specs.declared.refusals.Refusal.TheVariants.{TableForm, SignalKind, StatementRecord, Parts, SignalUse, Scope, EndlessLoop}
-use Rattle.routine.specs.declared.refusals.Refusal.TheVariants.{AlreadyOpen, AlreadyOver, NoInstantLeft, NotInput, NotOpenToStep, NoSuchStatement, NotReady, NotOpenToClose, StillReady}
-use Rattle.routine.specs.declared.refusals.Refusal.TheVariants.{RecordForm, RecordHead, RecordMarks, Memory}
+use Rattle.routine.specs.declared.refusals.Refusal.TheVariants.{TableForm, SignalKind}
+use Rattle.routine.specs.declared.refusals.Refusal.TheVariants.{StatementRecord, Parts, SignalUse}
+use Rattle.routine.specs.declared.refusals.Refusal.TheVariants.{Scope, EndlessLoop}
+use Rattle.routine.specs.declared.refusals.Refusal.TheVariants.{AlreadyOpen, AlreadyOver}
+use Rattle.routine.specs.declared.refusals.Refusal.TheVariants.{NoInstantLeft, NotInput}
+use Rattle.routine.specs.declared.refusals.Refusal.TheVariants.{NotOpenToStep, NoSuchStatement}
+use Rattle.routine.specs.declared.refusals.Refusal.TheVariants.{NotReady, NotOpenToClose}
+use Rattle.routine.specs.declared.refusals.Refusal.TheVariants.{StillReady}
+use Rattle.routine.specs.declared.refusals.Refusal.TheVariants.{RecordForm, RecordHead, RecordMarks}
+use Rattle.routine.specs.declared.refusals.Refusal.TheVariants.{Memory}
 use Rattle.routine.specs.Refusals.{place_of}
 
 abbrev pub line_end : List ℕ
@@ -51,10 +60,13 @@ subject_of Memory = None
 abbrev pub wording_of : Refusal → List ℕ
 wording_of TableForm = codes "the contents or the length are not those of a table"
 wording_of (SignalKind s) = codes "its kind is above 2"
-wording_of (StatementRecord i) = codes "an unknown kind, an unused field that is not 0, a signal that is not there, or a part that is not above it"
+wording_of (StatementRecord i) =
+    codes "an unknown kind, an unused field that is not 0, a signal that is not there, or a part that is not above it"
 wording_of (Parts i) = codes "it is not named as a part exactly once"
-wording_of (SignalUse i) = codes "an emit of an input, or a local statement whose signal is not local"
-wording_of (Scope i) = codes "a local signal outside its local statement, or a local statement with the signal of a lower one"
+wording_of (SignalUse i) =
+    codes "an emit of an input, or a local statement whose signal is not local"
+wording_of (Scope i) =
+    codes "a local signal outside its local statement, or a local statement with the signal of a lower one"
 wording_of (EndlessLoop i) = codes "a loop whose first part can end at once"
 wording_of AlreadyOpen = codes "an instant is open already"
 wording_of AlreadyOver = codes "the routine is over"
@@ -65,7 +77,8 @@ wording_of (NoSuchStatement i) = codes "there is no such statement"
 wording_of (NotReady i) = codes "it is not ready"
 wording_of NotOpenToClose = codes "no instant is open, so none can be closed"
 wording_of (StillReady i) = codes "it is still ready"
-wording_of RecordForm = codes "the length, the contents or the zeros are not those of a record of this routine"
+wording_of RecordForm =
+    codes "the length, the contents or the zeros are not those of a record of this routine"
 wording_of (RecordHead o) = codes "the head of the record has a wrong field there"
 wording_of (RecordMarks i) = codes "its mark is against the rules"
 wording_of Memory = codes "out of memory"
@@ -84,4 +97,7 @@ unknown_signal_text b = codes "no kind of signal has the byte " ++ decimal b
 
 abbrev pub unknown_statement_text : List ℕ → List ℕ
 unknown_statement_text r =
-    codes "no statement is " ++ (decimal (slice_index r 0) ++ (codes " " ++ (decimal (slice_index r 1) ++ (codes " " ++ (decimal (slice_index r 2) ++ (codes " " ++ decimal (slice_index r 3)))))))
+    codes "no statement is "
+    ++ (decimal (slice_index r 0)
+    ++ (codes " " ++ (decimal (slice_index r 1)
+    ++ (codes " " ++ (decimal (slice_index r 2) ++ (codes " " ++ decimal (slice_index r 3)))))))

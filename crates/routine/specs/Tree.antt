@@ -1,7 +1,10 @@
 -- the tree of a table: statement 0 and, below each statement, its parts
-use Rattle.std.specs.Prelude.{ℕ, zero, suc, ◌+◌, Bool, true, false, cond, ◌&&◌, ◌||◌, List, length, ◌==◌}
+use Rattle.std.specs.Prelude.{ℕ, zero, suc, ◌+◌, Bool, true, false, cond, ◌&&◌, ◌||◌, List, length}
+use Rattle.std.specs.Prelude.{◌==◌}
 use Rattle.routine.specs.declared.kinds.Kind.{Kind}
-use Rattle.routine.specs.Kinds.{Leaf, nothing, stop, emit, wait, One, loop, kill, local, Two, sequence, parallel, when, Shape, no_part, one_part, two_parts, shape_at}
+use Rattle.routine.specs.Kinds.{Leaf, nothing, stop, emit, wait, One, loop, kill, local, Two}
+use Rattle.routine.specs.Kinds.{sequence, parallel, when, Shape, no_part, one_part, two_parts}
+use Rattle.routine.specs.Kinds.{shape_at}
 
 -- a statement's number, what it is, and the trees of its parts
 pub data Tree : Type 0 where

@@ -1,5 +1,6 @@
 -- what a table and a routine hold, as lists
-use Rattle.std.specs.Prelude.{◌≡◌, ℕ, ◌<◌, List, Some, None, Ok, Err, vec_items, vec_len, Option, Result}
+use Rattle.std.specs.Prelude.{◌≡◌, ℕ, ◌<◌, List, Some, None, Ok, Err, vec_items, vec_len, Option}
+use Rattle.std.specs.Prelude.{Result}
 use Rattle.routine.specs.declared.kinds.SignalKind.{SignalKind}
 use Rattle.routine.specs.declared.kinds.Kind.{Kind}
 use Rattle.routine.specs.declared.kinds.Statement.{Statement}
@@ -41,11 +42,13 @@ PartsRise n i (one_part k a) = (i < a) × (a < n)
 PartsRise n i (two_parts k a b) = (i < a) × (a < n) × (i < b) × (b < n)
 
 -- a table that is read is checked next
-abbrev pub judged : List SignalKind × List Statement → Option Refusal → Result (List SignalKind × List Statement) Refusal
+abbrev pub judged : List SignalKind × List Statement → Option Refusal
+    → Result (List SignalKind × List Statement) Refusal
 judged p None = Ok p
 judged p (Some e) = Err e
 
-abbrev pub then_checked : Result (List SignalKind × List Statement) Refusal → Result (List SignalKind × List Statement) Refusal
+abbrev pub then_checked : Result (List SignalKind × List Statement) Refusal
+    → Result (List SignalKind × List Statement) Refusal
 then_checked (Ok p) = judged p (check_of p.0 (kinds p.1))
 then_checked (Err e) = Err e
 

@@ -2,7 +2,8 @@ ghost use Rattle.std.specs.Prelude.{◌≡◌, ℕ, ◌+◌, ◌*◌, ◌<◌, �
 ghost use Rattle.routine.specs.Search.{any, FindsLowest};
 ghost use Rattle.routine.specs.Kinds.{shape, kind_at, shape_at};
 ghost use Rattle.routine.specs.Tree.{node, tree_at, contains, inside, can_end};
-ghost use Rattle.routine.specs.Meaning.{names, named, is_misnamed, signal_at, misuses, declares, encloses, in_scope, unscoped, endless, check_of};
+ghost use Rattle.routine.specs.Meaning.{names, named, is_misnamed, signal_at, misuses, declares};
+ghost use Rattle.routine.specs.Meaning.{encloses, in_scope, unscoped, endless, check_of};
 ghost use Rattle.routine.specs.View.{Checks};
 ghost use Rattle.routine.specs.Lent.{lent_signals, lent_kinds};
 
@@ -119,7 +120,8 @@ impl Rows<'_> {
     }
 
     fn unscoped(&self, i: usize) -> bool
-        ensures { result ≡ unscoped (lent_signals self.now) (lent_kinds self.now) i (kind_at (lent_kinds self.now) i) }
+        ensures { result ≡ unscoped (lent_signals self.now) (lent_kinds self.now) i
+            (kind_at (lent_kinds self.now) i) }
     {
         match self.kind(i) {
             Kind::Emit { signal }

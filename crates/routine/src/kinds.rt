@@ -44,7 +44,8 @@ impl fmt::Display for UnknownSignal {
 
 impl Error for UnknownSignal {}
 
-// What a statement is. `first` and `second` are the numbers of its parts, `signal` that of its signal.
+// What a statement is. `first` and `second` are the numbers of its parts, `signal` that of its
+// signal.
 #[derive(Clone, Copy, Debug, Default, PartialEq, Eq)]
 pub enum Kind {
     #[default]
@@ -60,7 +61,8 @@ pub enum Kind {
     Local { signal: u8, first: u8 },
 }
 
-// Four bytes that spell no statement: an unknown kind, or a field that it does not use and that is not 0.
+// Four bytes that spell no statement: an unknown kind, or a field that it does not use and that is
+// not 0.
 #[derive(Clone, Copy, Debug, PartialEq, Eq)]
 pub struct UnknownStatement(pub [u8; 4]);
 

@@ -19,4 +19,4 @@ pub use loader::load;
 pub use reader::read;
 pub use reasons::Reason;
 pub use refusals::Refusal;
-pub use tables::Table;
+pub use tables::{MOST_SIGNALS, MOST_STATEMENTS, MOST_TABLE_BYTES, Table};

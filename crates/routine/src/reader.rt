@@ -75,7 +75,8 @@ impl Header {
     }
 }
 
-// A number of two bytes, the lower first: the library's conversion, in one line for the four numbers of a header.
+// A number of two bytes, the lower first: the library's conversion, in one line for the four
+// numbers of a header.
 fn word(low: u8, high: u8) -> usize
     ensures { result ≡ low + 256 * high }
 {
@@ -96,7 +97,8 @@ fn read_signals(bytes: &[u8]) -> Result<ArrayVec<SignalKind, 64>, Refusal>
 
 fn read_statements(bytes: &[u8], header: Header) -> Result<ArrayVec<Statement, 256>, Refusal>
     requires { length bytes.now ≤ 4 * 256 }
-    ensures { Answers (records_from header.signals header.statements 0 bytes.now) (λ made. made.items) result }
+    ensures { Answers (records_from header.signals header.statements 0 bytes.now)
+        (λ made. made.items) result }
 {
     let mut made = ArrayVec::new();
     let mut left = bytes;

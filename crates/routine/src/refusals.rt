@@ -6,7 +6,8 @@ use std::alloc::{AllocError, AllocFailed};
 use std::error::Error;
 use std::fmt;
 
-// Why something was refused: a case for each refusal of the engine, by its layer. The field is its place.
+// Why something was refused: a case for each refusal of the engine, by its layer. The field is its
+// place.
 #[derive(Clone, Copy, Debug, PartialEq, Eq)]
 pub enum Refusal {
     // layer 1: the form of a table

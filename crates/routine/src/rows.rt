@@ -38,7 +38,8 @@ impl Rows<'_> {
     pub(crate) fn kind(&self, i: usize) -> Kind
         ensures value { result ≡ kind_at (lent_kinds self.now) i }
         ensures rise { PartsRise (lent_count self.now) i (shape result) }
-        ensures level { tree_at (lent_kinds self.now) i ≡ node i (shape result) (tree_at (lent_kinds self.now)) }
+        ensures level { tree_at (lent_kinds self.now) i
+            ≡ node i (shape result) (tree_at (lent_kinds self.now)) }
     {
         self.statements.get(i).map_or(Kind::Nothing, |row| row.kind)
     }

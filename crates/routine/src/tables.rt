@@ -5,9 +5,18 @@ ghost use Rattle.routine.specs.Layout.{Formed};
 use crate::kinds::{Kind, SignalKind, Statement};
 use crate::rows::Rows;
 
-// What a table's bytes say, not yet checked: its signals and its statements, each with a number from 0 on.
-// A part is a number and no box, since calls and refusals name statements by number.
-// It has the form of a table: at most 64 signals, 1 to 256 statements, fields that fit.
+/// How many signals a table has at most.
+pub const MOST_SIGNALS: usize = 64;
+
+/// How many statements a table has at most.
+pub const MOST_STATEMENTS: usize = 256;
+
+/// How many bytes a table has at most: its contents, a byte a signal, four a statement.
+pub const MOST_TABLE_BYTES: usize = 1096;
+
+// What a table's bytes say, not yet checked: its signals and its statements, each with a number
+// from 0 on. A part is a number and no box, since calls and refusals name statements by number. It
+// has the form of a table: at most 64 signals, 1 to 256 statements, fields that fit.
 #[derive(Debug, Drop)]
 pub struct Table {
     pub signals: Vec<SignalKind>,
@@ -47,11 +56,13 @@ impl Table {
         self.rows().signal(signal)
     }
 
-    // Statement i, one level of its tree, and where its parts lie. From the count on it counts as nothing.
+    // Statement i, one level of its tree, and where its parts lie. From the count on it counts as
+    // nothing.
     pub fn kind(&self, i: usize) -> Kind
         ensures value { result ≡ kind_at (table_kinds self.now) i }
         ensures rise { PartsRise (count_of self.now) i (shape result) }
-        ensures level { tree_at (table_kinds self.now) i ≡ node i (shape result) (tree_at (table_kinds self.now)) }
+        ensures level { tree_at (table_kinds self.now) i
+            ≡ node i (shape result) (tree_at (table_kinds self.now)) }
     {
         self.rows().kind(i)
     }

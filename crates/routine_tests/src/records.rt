@@ -8,8 +8,8 @@ use std::alloc::Global;
 use std::process::Abort;
 use std::test::Fail;
 
-// parallel(local L(local M(sequence(emit L, kill A(loop(sequence(wait M, stop)))))), when A(nothing, emit B)), with
-// A, B, L, M = 0, 1, 2, 3: every kind of statement
+// parallel(local L(local M(sequence(emit L, kill A(loop(sequence(wait M, stop)))))), when
+// A(nothing, emit B)), with A, B, L, M = 0, 1, 2, 3: every kind of statement
 fn every_kind(heap: Global) -> Result<Routine, Fail> {
     routine(
         heap,
@@ -32,8 +32,8 @@ fn every_kind(heap: Global) -> Result<Routine, Fail> {
     )
 }
 
-// At rest after one instant; in the second, with A and B present and two steps made; and over after three. Of the marks, 0 is
-// idle, 1 waiting, 2 under way, 3 done.
+// At rest after one instant; in the second, with A and B present and two steps made; and over after
+// three. Of the marks, 0 is idle, 1 waiting, 2 under way, 3 done.
 const RESTING: [u8; 15] = [0, 1, 0, 0, 0, 0, 0, 0, 0, 0, 0, 0, 0, 0, 0];
 
 const RESTING_MARKS: [u8; 13] = [2, 1, 1, 2, 0, 2, 2, 2, 1, 0, 2, 0, 1];

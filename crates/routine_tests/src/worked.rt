@@ -70,7 +70,8 @@ fn nothing_and_stop(rt: HostRuntime) -> Result<(), Fail> {
     )
 }
 
-// parallel(parallel(when A(emit B, nothing), emit A), sequence(wait B, emit C)), with A, B, C = 0, 1, 2
+// parallel(parallel(when A(emit B, nothing), emit A), sequence(wait B, emit C)), with A, B, C = 0,
+// 1, 2
 pub(crate) const RELAYED: [[u8; 4]; 9] = [
     [5, 0, 1, 6],
     [5, 0, 2, 5],
@@ -176,8 +177,8 @@ fn emitted(rt: HostRuntime) -> Result<(), Fail> {
     )
 }
 
-// 255 loops in one another around a stop, with 64 inputs: each loop makes a step to begin, and only the innermost
-// one goes round.
+// 255 loops in one another around a stop, with 64 inputs: each loop makes a step to begin, and only
+// the innermost one goes round.
 #[test]
 fn at_the_limits(rt: HostRuntime) -> Result<(), Fail> {
     let mut records: Vec<[u8; 4]> = (1..=255u8).map(|i| [6, 0, i, 0]).collect(rt.alloc())?;

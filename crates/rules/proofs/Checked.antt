@@ -1,5 +1,6 @@
 -- what the checks of a routine say, in the words of the proofs
-use Rattle.std.proofs.Common.{◌≡◌, ℕ, ◌<◌, Bool, true, false, not, ◌&&◌, List, length, is_some, Some, None, Option, refl, ap, subst, arith}
+use Rattle.std.proofs.Common.{◌≡◌, ℕ, ◌<◌, Bool, true, false, not, ◌&&◌, List, length, is_some}
+use Rattle.std.proofs.Common.{Some, None, Option, refl, ap, subst, arith}
 use Rattle.routine.specs.declared.kinds.Kind.{Kind}
 use Rattle.routine.specs.declared.kinds.SignalKind.{SignalKind}
 use Rattle.routine.specs.declared.kinds.SignalKind.TheVariants.{Local as Own}
@@ -10,7 +11,8 @@ use Rattle.routine.proofs.Whole.{some_statement}
 use Rattle.routine.specs.Search.{lowest, any}
 use Rattle.routine.specs.Kinds.{shape, kind_at, shape_at}
 use Rattle.routine.specs.Tree.{Tree, leaf, one, two, tree_at, contains, inside, can_end}
-use Rattle.routine.specs.Meaning.{is_local, signal_at, misuses, declares, encloses, in_scope, is_out_of_scope, unscoped, endless}
+use Rattle.routine.specs.Meaning.{is_local, signal_at, misuses, declares, encloses, in_scope}
+use Rattle.routine.specs.Meaning.{is_out_of_scope, unscoped, endless}
 use Rattle.routine.proofs.Searches.{found, lowest_below, none_below}
 use Rattle.routine.proofs.Trees.{Rising, rising, contains_in, in_under}
 use Rattle.routine.proofs.Passed.{Tested, tested, once}
@@ -48,13 +50,16 @@ binds_declares k s h = grind arith
 declares_binds : (k : Kind) (s : ℕ) → declares k s ≡ true → Binds (shape k) s
 declares_binds k s h = grind arith
 
-binds_local : (gs : List SignalKind) (k : Kind) (s : ℕ) → misuses gs k ≡ false → Binds (shape k) s → signal_at gs s ≡ Own
+binds_local : (gs : List SignalKind) (k : Kind) (s : ℕ) → misuses gs k ≡ false → Binds (shape k) s
+    → signal_at gs s ≡ Own
 binds_local gs k s h b = grind arith
 
-uses_out_of_scope : (gs : List SignalKind) (ks : List Kind) (i : ℕ) (k : Kind) (s : ℕ) → unscoped gs ks i k ≡ false → Uses (shape k) s → is_out_of_scope gs ks i s ≡ false
+uses_out_of_scope : (gs : List SignalKind) (ks : List Kind) (i : ℕ) (k : Kind) (s : ℕ)
+    → unscoped gs ks i k ≡ false → Uses (shape k) s → is_out_of_scope gs ks i s ≡ false
 uses_out_of_scope gs ks i k s h u = grind arith
 
-binds_alone : (gs : List SignalKind) (ks : List Kind) (i : ℕ) (k : Kind) (s : ℕ) → unscoped gs ks i k ≡ false → Binds (shape k) s
+binds_alone : (gs : List SignalKind) (ks : List Kind) (i : ℕ) (k : Kind) (s : ℕ)
+    → unscoped gs ks i k ≡ false → Binds (shape k) s
     → any (λ j. declares (kind_at ks j) s) i ≡ false
 binds_alone gs ks i k s h b = grind arith
 
@@ -82,16 +87,19 @@ module _ (gs : List SignalKind) (ks : List Kind) (C : Checked gs ks) where
   pub rises : Rising ks
   rises = rising (length gs) ks C.formed
 
-  not_below : (i j s : ℕ) → i < length ks → Binds (shape_at ks i) s → Binds (shape_at ks j) s → ¬ (j < i)
+  not_below : (i j s : ℕ) → i < length ks → Binds (shape_at ks i) s → Binds (shape_at ks j) s
+      → ¬ (j < i)
   not_below i j s l b c h =
       let a = binds_alone gs ks i (kind_at ks i) s (tests.scopes i l) b in
-      false_true (none_says (λ j. declares (kind_at ks j) s) i a j h) (binds_declares (kind_at ks j) s c)
+      false_true (none_says (λ j. declares (kind_at ks j) s) i a j h)
+      (binds_declares (kind_at ks j) s c)
 
   scopes : Scopes ks gs
   scopes =
       record {
         inner_only = λ i s l b. binds_local gs (kind_at ks i) s (tests.uses i l) b;
-        alone = λ i j s l m b c. let x = not_below i j s l b c in let y = not_below j i s m c b in omega arith;
+        alone = λ i j s l m b c. let x = not_below i j s l b c in let y = not_below j i s m c b in
+            omega arith;
         within = λ i s l u x.
             let a = uses_out_of_scope gs ks i (kind_at ks i) s (tests.scopes i l) u in
             let d = astray_scope (is_local (signal_at gs s)) (in_scope ks s i) a (ap is_local x) in
@@ -100,7 +108,8 @@ module _ (gs : List SignalKind) (ks : List Kind) (C : Checked gs ks) where
               f.0,
               f.1,
               declares_binds (kind_at ks f.0) s g.0,
-              in_under ks rises f.0 f.1 i (contains_in (tree_at ks f.0) i (inside_contains (tree_at ks f.0) i g.1)),
+              in_under ks rises f.0 f.1 i
+                  (contains_in (tree_at ks f.0) i (inside_contains (tree_at ks f.0) i g.1)),
             );
       }
 
@@ -118,7 +127,8 @@ module _ (gs : List SignalKind) (ks : List Kind) (C : Checked gs ks) where
 pub of_routine : (r : Routine) → Checked (table_signals r.table) (table_kinds r.table)
 of_routine r =
     record {
-      formed = subst (λ (g : ℕ). Formed g (table_kinds r.table)) r.table.signals.ok.0 r.table.formed;
+      formed = subst (λ (g : ℕ).
+          Formed g (table_kinds r.table)) r.table.signals.ok.0 r.table.formed;
       some = some_statement r;
       passed = r.passed;
     }

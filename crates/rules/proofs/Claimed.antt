@@ -21,14 +21,17 @@ module _ (ks : List Kind) (sorts : List Sort) (T : Table ks sorts) where
         | inr d ↦ absurd (false_true (unready (tree_at ks 0) s.0 s.1 k d) r)
       ]
 
-  to_root : {s z : Flat} {w : List ℕ} → Run (Enabled ks) (moved ks) s w z → Run (Readies (tree_at ks 0)) (stepped (tree_at ks 0)) s w z
+  to_root : {s z : Flat} {w : List ℕ} → Run (Enabled ks) (moved ks) s w z
+      → Run (Readies (tree_at ks 0)) (stepped (tree_at ks 0)) s w z
   to_root still = still
   to_root {s = s} {z = z} (then {i = i} {w = w} r h) =
-      then r (subst (λ (u : Flat). Run (Readies (tree_at ks 0)) (stepped (tree_at ks 0)) u w z) (sym (moves s i r)) (to_root h))
+      then r (subst (λ (u : Flat). Run (Readies (tree_at ks 0)) (stepped (tree_at ks 0)) u w z)
+      (sym (moves s i r)) (to_root h))
 
   pub orderless : Orderless ks
   orderless =
       record {
-        same = λ s z y w u l g r q r' q'. (order_never_shows ks sorts T).same s z y w u l g (to_root r) q (to_root r') q';
+        same = λ s z y w u l g r q r' q'.
+            (order_never_shows ks sorts T).same s z y w u l g (to_root r) q (to_root r') q';
         bounded = λ s z w l g r. (order_never_shows ks sorts T).bounded s z w l g (to_root r);
       }

@@ -8,7 +8,9 @@ pub use Rattle.rules.specs.Model.{Ready as Enabled, stepped as moved}
 
 pub record Orderless (ks : List Kind) : Type 0 where
   pub same : (s z y : Flat) (w u : List ℕ) → length s.0 ≡ length ks → LegalMarks ks s.0
-      → Run (Enabled ks) (moved ks) s w z → Quiet (Enabled ks) z → Run (Enabled ks) (moved ks) s u y → Quiet (Enabled ks) y
+      → Run (Enabled ks) (moved ks) s w z → Quiet (Enabled ks) z → Run (Enabled ks) (moved ks) s u y
+      → Quiet (Enabled ks) y
       → (z ≡ y) × ((i : ℕ) → occurrences ℕ_discrete i w ≡ occurrences ℕ_discrete i u)
-  pub bounded : (s z : Flat) (w : List ℕ) → length s.0 ≡ length ks → LegalMarks ks s.0 → Run (Enabled ks) (moved ks) s w z
+  pub bounded : (s z : Flat) (w : List ℕ) → length s.0 ≡ length ks → LegalMarks ks s.0
+      → Run (Enabled ks) (moved ks) s w z
       → length w ≤ 4 * length ks

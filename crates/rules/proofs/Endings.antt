@@ -1,7 +1,10 @@
 -- the end of an instant: lists and trees agree, and legal marks stay so
-use Rattle.std.proofs.Common.{◌≡◌, ℕ, ◌<◌, Bool, true, false, List, length, set, refl, ◌∙◌, inl, inr, arith, length-set, get_or-set_other, get_or-set_same}
-use Rattle.rules.proofs.MarkedTrees.{Mark, Idle, Waiting, UnderWay, Done, One, Two, sequence, parallel, when}
-use Rattle.rules.proofs.MarkedTrees.{Marked, mleaf, mone, mtwo, begin, Signals, Legal, live, is_live}
+use Rattle.std.proofs.Common.{◌≡◌, ℕ, ◌<◌, Bool, true, false, List, length, set, refl, ◌∙◌, inl}
+use Rattle.std.proofs.Common.{inr, arith, length-set, get_or-set_other, get_or-set_same}
+use Rattle.rules.proofs.MarkedTrees.{Mark, Idle, Waiting, UnderWay, Done, One, Two, sequence}
+use Rattle.rules.proofs.MarkedTrees.{parallel, when}
+use Rattle.rules.proofs.MarkedTrees.{Marked, mleaf, mone, mtwo, begin, Signals, Legal, live}
+use Rattle.rules.proofs.MarkedTrees.{is_live}
 use Rattle.rules.proofs.ByNumber.{two_over, Distinct}
 use Rattle.rules.proofs.ByNumber.{over as over_t}
 use Rattle.rules.proofs.Diamonds.{rest_legal}
@@ -10,25 +13,37 @@ use Rattle.rules.proofs.Ended.{one_ended, two_ended, ended, close1, close2, clos
 use Rattle.rules.proofs.Frames.{Kept, In, begun_kept, idled_kept, unseen, unset, Fits, over_same}
 use Rattle.rules.proofs.Steps.{set_own, begun_own, idled_own}
 
--- the parts' facts only at the lists that are met: with the general fact in reach `grind` takes it at ever more lists
-end1_kept : (n : ℕ) (m : Mark) (k : One) (p : Tree) (go : List Mark → List Mark) (ms : List Mark) (e : Signals)
-    → Kept (In p) ms (go ms) → Kept (In p) (set ms n Waiting) (go (set ms n Waiting)) → Kept (In (one n k p)) ms (one_ended n m k p go ms e)
-end1_kept n m k p go ms e a b = let c = idled_kept p (set ms n Done) in grind (arith, length-set, get_or-set_other)
+-- the parts' facts only at the lists that are met: with the general fact in reach `grind` takes it
+-- at ever more lists
+end1_kept : (n : ℕ) (m : Mark) (k : One) (p : Tree) (go : List Mark → List Mark) (ms : List Mark)
+    (e : Signals)
+    → Kept (In p) ms (go ms) → Kept (In p) (set ms n Waiting) (go (set ms n Waiting))
+    → Kept (In (one n k p)) ms (one_ended n m k p go ms e)
+end1_kept n m k p go ms e a b = let c = idled_kept p (set ms n Done) in
+    grind (arith, length-set, get_or-set_other)
 
-end2_kept : (n : ℕ) (m : Mark) (k : Two) (o : Bool) (p q : Tree) (go go' : List Mark → List Mark) (ms : List Mark)
-    → Kept (In p) ms (go ms) → Kept (In q) (go ms) (go' (go ms)) → Kept (In (two n k p q)) ms (two_ended n m k o q go go' ms)
-end2_kept n m k o p q go go' ms a b = let c = begun_kept q (set ms n UnderWay) in grind (arith, length-set, get_or-set_other)
+end2_kept : (n : ℕ) (m : Mark) (k : Two) (o : Bool) (p q : Tree) (go go' : List Mark → List Mark)
+    (ms : List Mark)
+    → Kept (In p) ms (go ms) → Kept (In q) (go ms) (go' (go ms))
+    → Kept (In (two n k p q)) ms (two_ended n m k o q go go' ms)
+end2_kept n m k o p q go go' ms a b = let c = begun_kept q (set ms n UnderWay) in
+    grind (arith, length-set, get_or-set_other)
 
 pub ended_kept : (t : Tree) (ms : List Mark) (e : Signals) → Kept (In t) ms (ended t ms e)
 ended_kept (leaf n k) ms e = let m = at ms n in grind (arith, length-set, get_or-set_other)
-ended_kept (one n k p) ms e = end1_kept n (at ms n) k p (λ ns. ended p ns e) ms e (ended_kept p ms e) (ended_kept p (set ms n Waiting) e)
+ended_kept (one n k p) ms e =
+    end1_kept n (at ms n) k p (λ ns. ended p ns e) ms e (ended_kept p ms e)
+    (ended_kept p (set ms n Waiting) e)
 ended_kept (two n k p q) ms e =
-    end2_kept n (at ms n) k (two_over k (over p ms) (over q ms)) p q (λ ns. ended p ns e) (λ ns. ended q ns e) ms (ended_kept p ms e) (ended_kept q (ended p ms e) e)
+    end2_kept n (at ms n) k (two_over k (over p ms) (over q ms)) p q (λ ns. ended p ns e)
+    (λ ns. ended q ns e) ms (ended_kept p ms e) (ended_kept q (ended p ms e) e)
 
 module _ (N : ℕ) (e : Signals) where
-  one_ends : (n : ℕ) (m : Mark) (k : One) (p : Tree) (ms : List Mark) → m ≡ at ms n → ¬ (In p n) → Distinct (blank p) → Fits N p → length ms ≡ N → n < N
+  one_ends : (n : ℕ) (m : Mark) (k : One) (p : Tree) (ms : List Mark) → m ≡ at ms n → ¬ (In p n)
+      → Distinct (blank p) → Fits N p → length ms ≡ N → n < N
       → ((ns : List Mark) → length ns ≡ N → marked p (ended p ns e) ≡ close e (marked p ns))
-      → marked (one n k p) (one_ended n m k p (λ ns. ended p ns e) ms e) ≡ close1 e n m k (marked p ms) (close e (marked p ms))
+      → marked (one n k p) (one_ended n m k p (λ ns. ended p ns e) ms e)
+      ≡ close1 e n m k (marked p ms) (close e (marked p ms))
   one_ends n m k p ms x d g f l b h =
       let a₁ = h ms l in
       let a₂ = h (set ms n Waiting) (length-set ms n Waiting ∙ l) in
@@ -39,7 +54,8 @@ module _ (N : ℕ) (e : Signals) where
       let a₇ = (ended_kept p (set ms n Waiting) e).other n d in
       grind arith
 
-  two_ends : (n : ℕ) (m : Mark) (k : Two) (o : Bool) (p q : Tree) (ms : List Mark) → m ≡ at ms n → Distinct (blank (two n k p q)) → Fits N (two n k p q) → length ms ≡ N
+  two_ends : (n : ℕ) (m : Mark) (k : Two) (o : Bool) (p q : Tree) (ms : List Mark) → m ≡ at ms n
+      → Distinct (blank (two n k p q)) → Fits N (two n k p q) → length ms ≡ N
       → marked p (ended p ms e) ≡ close e (marked p ms)
       → ((ns : List Mark) → length ns ≡ N → marked q (ended q ns e) ≡ close e (marked q ns))
       → marked (two n k p q) (two_ended n m k o q (λ ns. ended p ns e) (λ ns. ended q ns e) ms)
@@ -58,29 +74,35 @@ module _ (N : ℕ) (e : Signals) where
       let a₇ = unseen p us (begun q us) (begun_kept q us) d.2 ∙ unset p ms n UnderWay d.0 in
       grind arith
 
-  pub ended_same : (t : Tree) (ms : List Mark) → Distinct (blank t) → Fits N t → length ms ≡ N → marked t (ended t ms e) ≡ close e (marked t ms)
+  pub ended_same : (t : Tree) (ms : List Mark) → Distinct (blank t) → Fits N t → length ms ≡ N
+      → marked t (ended t ms e) ≡ close e (marked t ms)
   ended_same (leaf n k) ms d f l =
       let a = get_or-set_same ms n Done Idle (let a = f n refl in omega arith) in
       grind arith
   ended_same (one n k p) ms d f l =
       let fp : Fits N p = λ i h. f i (inr h) in
-      one_ends n (at ms n) k p ms refl d.0 d.1 fp l (f n (inl refl)) (λ ns l'. ended_same p ns d.1 fp l')
+      one_ends n (at ms n) k p ms refl d.0 d.1 fp l (f n (inl refl))
+      (λ ns l'. ended_same p ns d.1 fp l')
   ended_same (two n k p q) ms d f l =
       let fp : Fits N p = λ i h. f i (inr (inl h)) in
       let fq : Fits N q = λ i h. f i (inr (inr h)) in
       let o = over_same p ms in
       let o' = over_same q ms in
-      let a = two_ends n (at ms n) k (two_over k (over p ms) (over q ms)) p q ms refl d f l (ended_same p ms d.3 fp l) (λ ns l'. ended_same q ns d.4 fq l') in
+      let a = two_ends n (at ms n) k (two_over k (over p ms) (over q ms)) p q ms refl d f l
+      (ended_same p ms d.3 fp l) (λ ns l'. ended_same q ns d.4 fq l') in
       cc
 
 -- legal marks stay so
-pub begin_legal : (t : Marked) → Legal t → live t ≡ false → Legal (begin t) × (live (begin t) ≡ true)
+pub begin_legal : (t : Marked) → Legal t → live t ≡ false
+    → Legal (begin t) × (live (begin t) ≡ true)
 begin_legal (mleaf n k m) l b = grind arith
 begin_legal (mone n k m p) l b = let h = begin_legal p in grind arith
 begin_legal (mtwo n k m p q) l b = let h = begin_legal p in let g = begin_legal q in grind arith
 
-two_closes : (n : ℕ) (k : Two) (m : Mark) (o : Bool) (p q c d : Marked) → Legal (mtwo n k m p q) → Legal c × (live c ≡ live p) → Legal d × (live d ≡ live q)
-    → (live q ≡ false → Legal (begin q) × (live (begin q) ≡ true)) → Legal (close2 n m k o p q c d) × (live (close2 n m k o p q c d) ≡ is_live m)
+two_closes : (n : ℕ) (k : Two) (m : Mark) (o : Bool) (p q c d : Marked) → Legal (mtwo n k m p q)
+    → Legal c × (live c ≡ live p) → Legal d × (live d ≡ live q)
+    → (live q ≡ false → Legal (begin q) × (live (begin q) ≡ true))
+    → Legal (close2 n m k o p q c d) × (live (close2 n m k o p q c d) ≡ is_live m)
 two_closes n k Idle o p q c d l h g b = (l, refl)
 two_closes n sequence Waiting o p q c d l h g b = (l, refl)
 two_closes n parallel Waiting o p q c d l h g b = (l, refl)
@@ -89,8 +111,10 @@ two_closes n k UnderWay true p q c d l h g b = (l, refl)
 two_closes n k UnderWay false p q c d l h g b = ((rw (h.1, g.1) l.0, h.0, g.0), refl)
 two_closes n k Done o p q c d l h g b = (l, refl)
 
-pub close_legal : (e : Signals) (t : Marked) → Legal t → Legal (close e t) × (live (close e t) ≡ live t)
+pub close_legal : (e : Signals) (t : Marked) → Legal t
+    → Legal (close e t) × (live (close e t) ≡ live t)
 close_legal e (mleaf n k m) l = grind arith
 close_legal e (mone n k m p) l = let h = close_legal e p l.1 in let g = rest_legal p in grind arith
 close_legal e (mtwo n k m p q) l =
-    two_closes n k m (two_over k (over_t p) (over_t q)) p q (close e p) (close e q) l (close_legal e p l.1) (close_legal e q l.2) (begin_legal q l.2)
+    two_closes n k m (two_over k (over_t p) (over_t q)) p q (close e p) (close e q) l
+    (close_legal e p l.1) (close_legal e q l.2) (begin_legal q l.2)

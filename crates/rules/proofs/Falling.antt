@@ -1,9 +1,14 @@
-use Rattle.std.proofs.Common.{◌≡◌, ℕ, ◌+◌, ◌*◌, ◌<◌, ◌≤◌, Bool, true, false, cond, not, ◌⊎◌, List, length, sym, refl, ap, ◌∙◌, subst, ap₂, inl, inr, arith}
+use Rattle.std.proofs.Common.{◌≡◌, ℕ, ◌+◌, ◌*◌, ◌<◌, ◌≤◌, Bool, true, false, cond, not, ◌⊎◌, List}
+use Rattle.std.proofs.Common.{length, sym, refl, ap, ◌∙◌, subst, ap₂, inl, inr, arith}
 use Rattle.rules.specs.Runs.{Run, still, then}
-use Rattle.rules.proofs.MarkedTrees.{Mark, Idle, Waiting, UnderWay, Done, One, Two, sequence, parallel, when}
-use Rattle.rules.proofs.MarkedTrees.{Marked, mleaf, mone, mtwo, Pos, here, left, right, begin, rest, Over, Signals, Ready, ReadyOne, ReadyTwo, Opened}
-use Rattle.rules.proofs.MarkedTrees.{after, after_one, after_two, Legal, live, is_live, one_legal, two_legal, State, Can, next, Fine}
-use Rattle.rules.proofs.Potential.{size, most, ends, may, steps_left, Turns, Loops, InstantEnds, ends_one, ends_two, most_one, most_two, may_two}
+use Rattle.rules.proofs.MarkedTrees.{Mark, Idle, Waiting, UnderWay, Done, One, Two, sequence}
+use Rattle.rules.proofs.MarkedTrees.{parallel, when}
+use Rattle.rules.proofs.MarkedTrees.{Marked, mleaf, mone, mtwo, Pos, here, left, right, begin, rest}
+use Rattle.rules.proofs.MarkedTrees.{Over, Signals, Ready, ReadyOne, ReadyTwo, Opened}
+use Rattle.rules.proofs.MarkedTrees.{after, after_one, after_two, Legal, live, is_live, one_legal}
+use Rattle.rules.proofs.MarkedTrees.{two_legal, State, Can, next, Fine}
+use Rattle.rules.proofs.Potential.{size, most, ends, may, steps_left, Turns, Loops, InstantEnds}
+use Rattle.rules.proofs.Potential.{ends_one, ends_two, most_one, most_two, may_two}
 use Rattle.rules.proofs.Diamonds.{idle_quiet, idle_not_over, rest_legal, rest_after, diamond}
 
 -- most and ends have nothing to do with marks
@@ -38,7 +43,8 @@ idle_may (mtwo n k m p q) b = grind arith
 idle_one : (m : Mark) (k : One) (b : Bool) → one_legal m k b ≡ true → is_live m ≡ false → b ≡ false
 idle_one m k b o i = grind arith
 
-idle_two : (m : Mark) (k : Two) (b c : Bool) → two_legal m k b c ≡ true → is_live m ≡ false → (b ≡ false) × (c ≡ false)
+idle_two : (m : Mark) (k : Two) (b c : Bool) → two_legal m k b c ≡ true → is_live m ≡ false
+    → (b ≡ false) × (c ≡ false)
 idle_two m k b c o i = grind arith
 
 -- of a fresh one
@@ -49,7 +55,8 @@ pub record Fresh (t : Marked) : Type 0 where
 one_fresh : (n : ℕ) (k : One) (m : Mark) (p : Marked) → Fresh p → Fresh (mone n k m p)
 one_fresh n k m p f = grind arith
 
-two_fresh : (n : ℕ) (k : Two) (m : Mark) (p q : Marked) → steps_left q ≡ 0 → may q ≡ false → Fresh p → Fresh q → Fresh (mtwo n k m p q)
+two_fresh : (n : ℕ) (k : Two) (m : Mark) (p q : Marked) → steps_left q ≡ 0 → may q ≡ false → Fresh p
+    → Fresh q → Fresh (mtwo n k m p q)
 two_fresh n k m p q i j f g = grind arith
 
 pub fresh : (t : Marked) → Legal t → live t ≡ false → Fresh t
@@ -59,7 +66,8 @@ fresh (mtwo n k m p q) l b =
     let u = idle_two m k (live p) (live q) l.0 b in
     two_fresh n k m p q (idle_left q u.1) (idle_may q u.1) (fresh p l.1 u.0) (fresh q l.2 u.1)
 
-two_may : (m : Mark) (k : Two) (p q : Marked) (f g : Bool) → two_legal m k (live p) (live q) ≡ true → Legal p → Legal q → (Over p → may p ≡ true) → (Over q → may q ≡ true)
+two_may : (m : Mark) (k : Two) (p q : Marked) (f g : Bool) → two_legal m k (live p) (live q) ≡ true
+    → Legal p → Legal q → (Over p → may p ≡ true) → (Over q → may q ≡ true)
     → (n : ℕ) → Over (mtwo n k m p q) → may_two m k (may p) (may q) f g ≡ true
 two_may m k p q f g o l l' h h' n w =
     let i = idle_may p in let j = idle_not_over p in let k = idle_not_over q in
@@ -68,34 +76,44 @@ two_may m k p q f g o l l' h h' n w =
 pub over_may : (t : Marked) → Legal t → Over t → may t ≡ true
 over_may (mleaf n k m) l o = grind arith
 over_may (mone n k m p) l o = grind arith
-over_may (mtwo n k m p q) l o = two_may m k p q (ends p) (ends q) l.0 l.1 l.2 (over_may p l.1) (over_may q l.2) n o
+over_may (mtwo n k m p q) l o =
+    two_may m k p q (ends p) (ends q) l.0 l.1 l.2 (over_may p l.1) (over_may q l.2) n o
 
 pub record Falls (t u : Marked) : Type 0 where
   pub less : steps_left u < steps_left t
   pub never : may u ≡ true → may t ≡ true
 
-one_here : (n : ℕ) (k : One) (m : Mark) (p : Marked) → one_legal m k (live p) ≡ true → Loops k (ends p) → ReadyOne m k p
-    → (live p ≡ false → Fresh p) → (Over p → may p ≡ true) → most (rest p) ≡ most p → Falls (mone n k m p) (after_one n m k p)
+one_here : (n : ℕ) (k : One) (m : Mark) (p : Marked) → one_legal m k (live p) ≡ true
+    → Loops k (ends p) → ReadyOne m k p
+    → (live p ≡ false → Fresh p) → (Over p → may p ≡ true) → most (rest p) ≡ most p
+    → Falls (mone n k m p) (after_one n m k p)
 one_here n k m p o c r f g h = grind arith
 
-one_left : (n : ℕ) (k : One) (m : Mark) (p q : Marked) → one_legal m k (live p) ≡ true → live p ≡ true → Opened m k → most q ≡ most p → Falls p q
+one_left : (n : ℕ) (k : One) (m : Mark) (p q : Marked) → one_legal m k (live p) ≡ true
+    → live p ≡ true → Opened m k → most q ≡ most p → Falls p q
     → Falls (mone n k m p) (mone n k m q)
 one_left n k m p q o b w h f = grind arith
 
-two_here : (e : Signals) (n : ℕ) (k : Two) (m : Mark) (p q : Marked) → two_legal m k (live p) (live q) ≡ true → ReadyTwo e m k p
-    → (live p ≡ false → Fresh p) → (live q ≡ false → Fresh q) → (live q ≡ false → (steps_left q ≡ 0) × (may q ≡ false))
-    → (Over p → may p ≡ true) → (live p ≡ false → ¬ (Over p)) → steps_left (rest p) ≡ 0 → may (rest p) ≡ false
+two_here : (e : Signals) (n : ℕ) (k : Two) (m : Mark) (p q : Marked)
+    → two_legal m k (live p) (live q) ≡ true → ReadyTwo e m k p
+    → (live p ≡ false → Fresh p) → (live q ≡ false → Fresh q)
+    → (live q ≡ false → (steps_left q ≡ 0) × (may q ≡ false))
+    → (Over p → may p ≡ true) → (live p ≡ false → ¬ (Over p)) → steps_left (rest p) ≡ 0
+    → may (rest p) ≡ false
     → Falls (mtwo n k m p q) (after_two n m k p q)
 two_here e n k m p q o r f g i h w a b = grind arith
 
-two_left : (n : ℕ) (k : Two) (m : Mark) (p q u : Marked) → two_legal m k (live p) (live q) ≡ true → live p ≡ true
+two_left : (n : ℕ) (k : Two) (m : Mark) (p q u : Marked) → two_legal m k (live p) (live q) ≡ true
+    → live p ≡ true
     → (live q ≡ false → may q ≡ false) → Falls p u → Falls (mtwo n k m p q) (mtwo n k m u q)
 two_left n sequence m p q u o b i f = grind arith
 two_left n parallel m p q u o b i f = grind arith
 two_left n (when s) m p q u o b i f = grind arith
 
-two_right : (n : ℕ) (k : Two) (m : Mark) (p q u : Marked) → two_legal m k (live p) (live q) ≡ true → live q ≡ true
-    → (live p ≡ false → may p ≡ false) → most u ≡ most q → ends u ≡ ends q → Falls q u → Falls (mtwo n k m p q) (mtwo n k m p u)
+two_right : (n : ℕ) (k : Two) (m : Mark) (p q u : Marked) → two_legal m k (live p) (live q) ≡ true
+    → live q ≡ true
+    → (live p ≡ false → may p ≡ false) → most u ≡ most q → ends u ≡ ends q → Falls q u
+    → Falls (mtwo n k m p q) (mtwo n k m p u)
 two_right n sequence m p q u o b i a c f = grind arith
 two_right n parallel m p q u o b i a c f = grind arith
 two_right n (when s) m p q u o b i a c f = grind arith
@@ -107,19 +125,26 @@ module _ (e : Signals) where
       at : (b : Bool) → ¬ (b ≡ false) → b ≡ true
       at b d = grind arith
 
-  pub falls : (t : Marked) → Legal t → Turns (rest t) → (x : Pos) → Ready e t x → Falls t (after t x)
+  pub falls : (t : Marked) → Legal t → Turns (rest t) → (x : Pos) → Ready e t x
+      → Falls t (after t x)
   falls (mleaf n k m) l c x r = grind arith
-  falls (mone n k m p) l c here r = one_here n k m p l.0 (subst (Loops k) (ends_rest p) c.0) r (fresh p l.1) (over_may p l.1) (most_rest p)
+  falls (mone n k m p) l c here r =
+      one_here n k m p l.0 (subst (Loops k) (ends_rest p) c.0) r (fresh p l.1) (over_may p l.1)
+      (most_rest p)
   falls (mone n k m p) l c (left x) r =
-      one_left n k m p (after p x) l.0 (ready_live p l.1 x r.1) r.0 (most_after p x) (falls p l.1 c.1 x r.1)
+      one_left n k m p (after p x) l.0 (ready_live p l.1 x r.1) r.0 (most_after p x)
+      (falls p l.1 c.1 x r.1)
   falls (mone n k m p) l c (right x) r = absurd r
   falls (mtwo n k m p q) l c here r =
       let i = (rest_legal p).1 in
-      two_here e n k m p q l.0 r (fresh p l.1) (fresh q l.2) (λ b. (idle_left q b, idle_may q b)) (over_may p l.1) (idle_not_over p l.1)
+      two_here e n k m p q l.0 r (fresh p l.1) (fresh q l.2) (λ b. (idle_left q b, idle_may q b))
+      (over_may p l.1) (idle_not_over p l.1)
       (idle_left (rest p) i) (idle_may (rest p) i)
-  falls (mtwo n k m p q) l c (left x) r = two_left n k m p q (after p x) l.0 (ready_live p l.1 x r) (idle_may q) (falls p l.1 c.0 x r)
+  falls (mtwo n k m p q) l c (left x) r =
+      two_left n k m p q (after p x) l.0 (ready_live p l.1 x r) (idle_may q) (falls p l.1 c.0 x r)
   falls (mtwo n k m p q) l c (right x) r =
-      two_right n k m p q (after q x) l.0 (ready_live q l.2 x r) (idle_may p) (most_after q x) (ends_after q x) (falls q l.2 c.1 x r)
+      two_right n k m p q (after q x) l.0 (ready_live q l.2 x r) (idle_may p) (most_after q x)
+      (ends_after q x) (falls q l.2 c.1 x r)
 
 -- the bounds
 most_size : (t : Marked) → most t ≤ 2 * size t
@@ -131,26 +156,35 @@ record Bounded (t : Marked) : Type 0 where
   always : steps_left t ≤ 4 * size t
   ending : may t ≡ true → steps_left t ≤ 2 * size t
 
-one_bounded : (n : ℕ) (k : One) (m : Mark) (p : Marked) → most p ≤ 2 * size p → Bounded p → Bounded (mone n k m p)
+one_bounded : (n : ℕ) (k : One) (m : Mark) (p : Marked) → most p ≤ 2 * size p → Bounded p
+    → Bounded (mone n k m p)
 one_bounded n k m p c h = grind arith
 
 which : (b c : Bool) → cond b (not c) c ≡ true → (c ≡ false) ⊎ (b ≡ false)
 which true c h = inl (grind arith)
 which false c h = inr refl
 
-seq_1 : (n : ℕ) (p q : Marked) → (steps_left q ≡ 0) × (may q ≡ false) → most q ≤ 2 * size q → Bounded p → Bounded (mtwo n sequence UnderWay p q)
+seq_1 : (n : ℕ) (p q : Marked) → (steps_left q ≡ 0) × (may q ≡ false) → most q ≤ 2 * size q
+    → Bounded p → Bounded (mtwo n sequence UnderWay p q)
 seq_1 n p q w b h = grind arith
 
-seq_2 : (n : ℕ) (p q : Marked) → (steps_left p ≡ 0) × (may p ≡ false) → Bounded q → Bounded (mtwo n sequence UnderWay p q)
+seq_2 : (n : ℕ) (p q : Marked) → (steps_left p ≡ 0) × (may p ≡ false) → Bounded q
+    → Bounded (mtwo n sequence UnderWay p q)
 seq_2 n p q w g = grind arith
 
-two_bounded : (n : ℕ) (k : Two) (m : Mark) (p q : Marked) → two_legal m k (live p) (live q) ≡ true → most p ≤ 2 * size p → most q ≤ 2 * size q
-    → (live p ≡ false → (steps_left p ≡ 0) × (may p ≡ false)) → (live q ≡ false → (steps_left q ≡ 0) × (may q ≡ false))
+two_bounded : (n : ℕ) (k : Two) (m : Mark) (p q : Marked) → two_legal m k (live p) (live q) ≡ true
+    → most p ≤ 2 * size p → most q ≤ 2 * size q
+    → (live p ≡ false → (steps_left p ≡ 0) × (may p ≡ false))
+    → (live q ≡ false → (steps_left q ≡ 0) × (may q ≡ false))
     → Bounded p → Bounded q → Bounded (mtwo n k m p q)
 two_bounded n sequence Idle p q o a b i j h g = grind arith
 two_bounded n sequence Waiting p q o a b i j h g = grind arith
 two_bounded n sequence UnderWay p q o a b i j h g =
-    elim (which (live p) (live q) o) [ inl u ↦ let w = j u in seq_1 n p q w b h | inr u ↦ let w = i u in seq_2 n p q w g ]
+    elim (which (live p) (live q) o) [
+      | inl u ↦ let w = j u in
+          seq_1 n p q w b h
+      | inr u ↦ let w = i u in seq_2 n p q w g
+    ]
 two_bounded n sequence Done p q o a b i j h g = grind arith
 two_bounded n parallel m p q o a b i j h g = grind arith
 two_bounded n (when s) m p q o a b i j h g = grind arith
@@ -159,10 +193,12 @@ bounded : (t : Marked) → Legal t → Bounded t
 bounded (mleaf n k m) l = grind arith
 bounded (mone n k m p) l = one_bounded n k m p (most_size p) (bounded p l.1)
 bounded (mtwo n k m p q) l =
-    two_bounded n k m p q l.0 (most_size p) (most_size q) (λ b. (idle_left p b, idle_may p b)) (λ b. (idle_left q b, idle_may q b))
+    two_bounded n k m p q l.0 (most_size p) (most_size q) (λ b. (idle_left p b, idle_may p b))
+    (λ b. (idle_left q b, idle_may q b))
     (bounded p l.1) (bounded q l.2)
 
-run_falls : {s z : State} {w : List Pos} → Fine s → Turns (rest s.0) → Run Can next s w z → length w + steps_left z.0 ≤ steps_left s.0
+run_falls : {s z : State} {w : List Pos} → Fine s → Turns (rest s.0) → Run Can next s w z
+    → length w + steps_left z.0 ≤ steps_left s.0
 run_falls f c still = omega arith
 run_falls {s = s} f c (then {i = x} r o) =
     let h = run_falls (diamond.keep s x f r) (subst Turns (sym (rest_after s.0 x)) c) o in
@@ -170,4 +206,5 @@ run_falls {s = s} f c (then {i = x} r o) =
     omega arith
 
 pub instant_ends : InstantEnds
-instant_ends s z w f c r = let h = run_falls f c r in let g = (bounded s.0 f.0).always in omega arith
+instant_ends s z w f c r = let h = run_falls f c r in let g = (bounded s.0 f.0).always in
+    omega arith

@@ -11,7 +11,9 @@ module _ (ks : List Kind) (sorts : List Sort) (T : Table ks sorts) where
   to_legal ms L = legal_to ks T.shaped ms L 0 T.some_row
 
   pub from_legal : (ms : List Mark) → Legal (marked (tree_at ks 0) ms) → LegalMarks ks ms
-  from_legal ms L i l = (legal_row ks T.shaped ms i l (legal_from ks T.shaped ms T.some_row L (every ks T.shaped T.once (suc i) i T.some_row (omega arith) l))).0
+  from_legal ms L i l = (legal_row ks T.shaped ms i l
+      (legal_from ks T.shaped ms T.some_row L
+      (every ks T.shaped T.once (suc i) i T.some_row (omega arith) l))).0
 
   pub order_never_shows : OrderNeverShows ks
   order_never_shows =

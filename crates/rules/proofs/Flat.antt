@@ -18,6 +18,8 @@ pub record Sound (n : ℕ) (t : Tree) : Type 0 where
 
 pub record SameEnd (n : ℕ) (t : Tree) : Type 0 where
   pub same : (s z y : Flat) (w u : List ℕ) → length s.0 ≡ n → Legal (marked t s.0)
-      → Run (Readies t) (stepped t) s w z → Quiet (Readies t) z → Run (Readies t) (stepped t) s u y → Quiet (Readies t) y
+      → Run (Readies t) (stepped t) s w z → Quiet (Readies t) z → Run (Readies t) (stepped t) s u y
+      → Quiet (Readies t) y
       → (z ≡ y) × ((i : ℕ) → occurrences ℕ_discrete i w ≡ occurrences ℕ_discrete i u)
-  pub bounded : (s z : Flat) (w : List ℕ) → length s.0 ≡ n → Legal (marked t s.0) → Run (Readies t) (stepped t) s w z → length w ≤ 4 * n
+  pub bounded : (s z : Flat) (w : List ℕ) → length s.0 ≡ n → Legal (marked t s.0)
+      → Run (Readies t) (stepped t) s w z → length w ≤ 4 * n

@@ -1,5 +1,7 @@
 -- the lowest ready statement is the lowest whose own rule applies
-use Rattle.std.proofs.Common.{◌≡◌, ℕ, suc, zero, ◌<◌, Bool, true, false, not, ◌&&◌, ◌||◌, List, length, Some, None, Option, sym, refl, ap, ◌∙◌, subst, inl, inr, arith}
+use Rattle.std.proofs.Common.{◌≡◌, ℕ, suc, zero, ◌<◌, Bool, true, false, not, ◌&&◌, ◌||◌, List}
+use Rattle.std.proofs.Common.{length, Some, None, Option, sym, refl, ap, ◌∙◌, subst, inl, inr}
+use Rattle.std.proofs.Common.{arith}
 use Rattle.std.proofs.lemmas.Bool.{false≢true, false_from_ne_true}
 use native.Mathlib.Decide.{ℕ_discrete}
 use Rattle.routine.specs.declared.kinds.Kind.{Kind}
@@ -7,9 +9,11 @@ use Rattle.routine.specs.declared.kinds.SignalKind.{SignalKind}
 use Rattle.routine.specs.Tree.{node, tree_at}
 use Rattle.routine.specs.Kinds.{Shape, no_part, one_part, two_parts, shape_at}
 use Rattle.routine.specs.Search.{lowest, or_last}
-use Rattle.routine.proofs.Searches.{Found, found, lowest_below, lowest_here, lowest_none, none_below}
+use Rattle.routine.proofs.Searches.{Found, found, lowest_below, lowest_here, lowest_none}
+use Rattle.routine.proofs.Searches.{none_below}
 use Rattle.routine.proofs.Trees.{unroll, trees, under_below}
-use Rattle.rules.specs.Rules.{Mark, Signals, One, at, over, ready, reached, rule, shut, one_rule, pick}
+use Rattle.rules.specs.Rules.{Mark, Signals, One, at, over, ready, reached, rule, shut, one_rule}
+use Rattle.rules.specs.Rules.{pick}
 use Rattle.rules.specs.Theorems.{Checked, LowestByRule}
 use Rattle.rules.proofs.Tests.{Part, Rising, Table}
 use Rattle.rules.proofs.Frames.{In}
@@ -23,7 +27,8 @@ pub lowest_first : (P : ℕ → Bool) (n i : ℕ) → lowest P n ≡ Some i → 
 lowest_first P zero i h = absurd (grind arith)
 lowest_first P (suc n) i h = go (lowest_first P n i) (lowest P n) (P n) refl h
   where
-    go : (lowest P n ≡ Some i → lowest P i ≡ None) → (o : Option ℕ) (b : Bool) → lowest P n ≡ o → or_last o b n ≡ Some i → lowest P i ≡ None
+    go : (lowest P n ≡ Some i → lowest P i ≡ None) → (o : Option ℕ) (b : Bool) → lowest P n ≡ o
+        → or_last o b n ≡ Some i → lowest P i ≡ None
     go f (Some j) b e g = f (e ∙ g)
     go f None true e g = let x : n ≡ i = cc in subst (λ (m : ℕ). lowest P m ≡ None) x e
     go f None false e g = absurd (grind arith)
@@ -37,10 +42,12 @@ out_leaf i n e h = grind arith
 out_own : (i n : ℕ) (b : Bool) → i ≡ n → pick (ℕ_discrete i n) true b ≡ false → ⊥
 out_own i n b e h = grind arith
 
-out_one : (i n : ℕ) (s b : Bool) → pick (ℕ_discrete i n) true (not s && b) ≡ false → s ≡ false → b ≡ false
+out_one : (i n : ℕ) (s b : Bool) → pick (ℕ_discrete i n) true (not s && b) ≡ false → s ≡ false
+    → b ≡ false
 out_one i n s b h g = grind arith
 
-out_two : (i n : ℕ) (b c : Bool) → pick (ℕ_discrete i n) true (b || c) ≡ false → (b ≡ false) × (c ≡ false)
+out_two : (i n : ℕ) (b c : Bool) → pick (ℕ_discrete i n) true (b || c) ≡ false
+    → (b ≡ false) × (c ≡ false)
 out_two i n b c h = grind arith
 
 module _ (ks : List Kind) (S : Rising ks) (ms : List Mark) (e : Signals) (i : ℕ) where
@@ -48,11 +55,13 @@ module _ (ks : List Kind) (S : Rising ks) (ms : List Mark) (e : Signals) (i : �
   Lower = (j : ℕ) × (j < i) × (rule (tree_at ks j) ms e ≡ true)
 
   -- what is in a tree, and not reached there, lies inside a local that is shut
-  pub shut_off : (a : ℕ) → a < length ks → In (tree_at ks a) i → reached (tree_at ks a) ms i ≡ false → Lower
+  pub shut_off : (a : ℕ) → a < length ks → In (tree_at ks a) i → reached (tree_at ks a) ms i ≡ false
+      → Lower
   shut_off = trees ks S (λ a t. In t i → reached t ms i ≡ false → Lower)
       (λ a l g. at_shape a (shape_at ks a) (unroll ks S a l) (S a l) g)
     where
-      at_shape : (a : ℕ) (r : Shape) → tree_at ks a ≡ node a r (tree_at ks) → ((p : ℕ) → Part r p → (a < p) × (p < length ks))
+      at_shape : (a : ℕ) (r : Shape) → tree_at ks a ≡ node a r (tree_at ks)
+          → ((p : ℕ) → Part r p → (a < p) × (p < length ks))
           → ((p : ℕ) → Part r p → In (tree_at ks p) i → reached (tree_at ks p) ms i ≡ false → Lower)
           → In (node a r (tree_at ks)) i → reached (node a r (tree_at ks)) ms i ≡ false → Lower
       at_shape a (no_part k) x s g u w = absurd (out_leaf i a u w)
@@ -72,7 +81,8 @@ module _ (ks : List Kind) (S : Rising ks) (ms : List Mark) (e : Signals) (i : �
       at_shape a (two_parts k p q) x s g (inr (inl u)) w = g p (inl refl) u (out_two i a _ _ w).0
       at_shape a (two_parts k p q) x s g (inr (inr u)) w = g q (inr refl) u (out_two i a _ _ w).1
 
-module _ (gs : List SignalKind) (ks : List Kind) (C : Checked gs ks) (ms : List Mark) (e : Signals) where
+module _ (gs : List SignalKind) (ks : List Kind) (C : Checked gs ks) (ms : List Mark)
+    (e : Signals) where
   T : Table ks gs
   T = table gs ks C
 
@@ -96,10 +106,12 @@ module _ (gs : List SignalKind) (ks : List Kind) (C : Checked gs ks) (ms : List 
       go a b h = grind arith
 
   -- the lowest rule is ready
-  pub ready_by_rule : (i : ℕ) → i < length ks → P i ≡ true → ((k : ℕ) → k < i → P k ≡ false) → Q i ≡ true
+  pub ready_by_rule : (i : ℕ) → i < length ks → P i ≡ true → ((k : ℕ) → k < i → P k ≡ false)
+      → Q i ≡ true
   ready_by_rule i l h g = both i l ∙ go (reached (tree_at ks 0) ms i) refl
     where
-      go : (a : Bool) → reached (tree_at ks 0) ms i ≡ a → (reached (tree_at ks 0) ms i && P i) ≡ true
+      go : (a : Bool) → reached (tree_at ks 0) ms i ≡ a
+          → (reached (tree_at ks 0) ms i && P i) ≡ true
       go true w = ap (λ b. b && P i) w ∙ h
       go false w =
           let x = shut_off ks T.shaped ms e i 0 T.some_row (whole i l) w in
@@ -109,15 +121,19 @@ module _ (gs : List SignalKind) (ks : List Kind) (C : Checked gs ks) (ms : List 
   by_rule = go (lowest P (length ks)) refl
     where
       go : (o : Option ℕ) → lowest P (length ks) ≡ o → lowest P (length ks) ≡ lowest Q (length ks)
-      go None w = w ∙ sym (lowest_none Q (length ks) (λ k l. unready_by_rule k l (none_below P (length ks) w k l)))
+      go None w = w ∙ sym (lowest_none Q (length ks)
+          (λ k l. unready_by_rule k l (none_below P (length ks) w k l)))
       go (Some i) w =
           let l = lowest_below P (length ks) i w in
           let n = none_below P i (lowest_first P (length ks) i w) in
           let h : P i ≡ true = subst (Found P (length ks)) w (found P (length ks)) in
-          w ∙ sym (lowest_here Q (length ks) i (lowest_none Q i (λ k m. unready_by_rule k (omega arith) (n k m))) (ready_by_rule i l h n) l)
+          w ∙ sym (lowest_here Q (length ks) i
+          (lowest_none Q i (λ k m. unready_by_rule k (omega arith) (n k m)))
+          (ready_by_rule i l h n) l)
 
   pub none_applies : ((i : ℕ) → ¬ (Q i ≡ true)) → (i : ℕ) → i < length ks → P i ≡ false
-  none_applies q = none_below P (length ks) (by_rule ∙ lowest_none Q (length ks) (λ k l. false_from_ne_true (Q k) (q k)))
+  none_applies q = none_below P (length ks)
+      (by_rule ∙ lowest_none Q (length ks) (λ k l. false_from_ne_true (Q k) (q k)))
 
   pub none_ready : ((i : ℕ) → i < length ks → P i ≡ false) → (i : ℕ) → ¬ (Q i ≡ true)
   none_ready p i r =

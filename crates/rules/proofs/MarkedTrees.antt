@@ -1,7 +1,9 @@
 -- the language: statement trees that carry their marks
 use Rattle.std.proofs.Common.{◌≡◌, ℕ, Bool, true, false, ◌⊎◌, get_or, refl}
-pub use Rattle.rules.specs.Rules.{Mark, Idle, Waiting, UnderWay, Done, Leaf, nothing, stop, emit, wait, One, loop, kill, local, Two, sequence, parallel, when}
-pub use Rattle.rules.specs.Rules.{Signals, Effect, no_effect, raises, drops, leaf_effect, one_effect, apply, is_live, leaf_begun as begun}
+pub use Rattle.rules.specs.Rules.{Mark, Idle, Waiting, UnderWay, Done, Leaf, nothing, stop, emit}
+pub use Rattle.rules.specs.Rules.{wait, One, loop, kill, local, Two, sequence, parallel, when}
+pub use Rattle.rules.specs.Rules.{Signals, Effect, no_effect, raises, drops, leaf_effect}
+pub use Rattle.rules.specs.Rules.{one_effect, apply, is_live, leaf_begun as begun}
 pub use Rattle.rules.specs.Legal.{leaf_legal, one_legal, two_legal}
 
 pub data Marked : Type 0 where
@@ -177,7 +179,8 @@ abbrev pub Scoped : Marked → Type 0
 Scoped (mleaf n k m) = Unit {0}
 Scoped (mone n k m p) = ((s : ℕ) → Binds p s → ¬ (NamesOne k s)) × Scoped p
 Scoped (mtwo n k m p q) =
-    ((s : ℕ) → Binds p s → ¬ (NamesTwo k s ⊎ Names q s)) × ((s : ℕ) → Binds q s → ¬ (NamesTwo k s ⊎ Names p s)) × Scoped p × Scoped q
+    ((s : ℕ) → Binds p s → ¬ (NamesTwo k s ⊎ Names q s))
+    × ((s : ℕ) → Binds q s → ¬ (NamesTwo k s ⊎ Names p s)) × Scoped p × Scoped q
 
 -- the whole state
 abbrev pub State : Type 0

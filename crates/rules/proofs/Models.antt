@@ -1,4 +1,5 @@
-use Rattle.std.proofs.Common.{◌≡◌, ℕ, zero, suc, ◌<◌, ◌≤◌, Bool, true, false, ◌⊎◌, List, [], length, Some, None, Option, sym, refl, ap, ◌∙◌, subst, inl, inr, arith}
+use Rattle.std.proofs.Common.{◌≡◌, ℕ, zero, suc, ◌<◌, ◌≤◌, Bool, true, false, ◌⊎◌, List, [], length}
+use Rattle.std.proofs.Common.{Some, None, Option, sym, refl, ap, ◌∙◌, subst, inl, inr, arith}
 use native.Mathlib.Decide.{dec_lt}
 use Rattle.rules.specs.Runs.{Run, still, then, Quiet}
 use Rattle.rules.proofs.MarkedTrees.{Legal}
@@ -22,17 +23,21 @@ module _ (ks : List Kind) (sorts : List Sort) (T : Table ks sorts) where
   abbrev TurnsSo : Flat → Flat → Type 0
   TurnsSo s z = ((i : ℕ) × Enabled ks s i × (z ≡ moved ks s i)) ⊎ (Quiet (Enabled ks) s × (z ≡ s))
 
-  none_ready : (s : Flat) → ((k : ℕ) → k < length ks → ready (tree_at ks 0) s.0 s.1 k ≡ false) → Quiet (Enabled ks) s
+  none_ready : (s : Flat) → ((k : ℕ) → k < length ks → ready (tree_at ks 0) s.0 s.1 k ≡ false)
+      → Quiet (Enabled ks) s
   none_ready s h i r =
       elim (dec_lt i (length ks)) [
         | yes l ↦ false_true (h i l) r
-        | no d ↦ false_true (unready (tree_at ks 0) s.0 s.1 i (λ x. d ((sound ks sorts T).below i x))) r
+        | no d ↦ false_true (unready (tree_at ks 0) s.0 s.1 i
+            (λ x. d ((sound ks sorts T).below i x))) r
       ]
 
   find : (s : Flat) → TurnsSo s (turn ks s)
-  find s = go (lowest (ready (tree_at ks 0) s.0 s.1) (length ks)) (found (ready (tree_at ks 0) s.0 s.1) (length ks))
+  find s = go (lowest (ready (tree_at ks 0) s.0 s.1) (length ks))
+      (found (ready (tree_at ks 0) s.0 s.1) (length ks))
     where
-      go : (o : Option ℕ) → Found (ready (tree_at ks 0) s.0 s.1) (length ks) o → TurnsSo s (turned ks s o)
+      go : (o : Option ℕ) → Found (ready (tree_at ks 0) s.0 s.1) (length ks) o
+          → TurnsSo s (turned ks s o)
       go (Some i) h = inl (i, h, refl)
       go None h = inr (none_ready s h, refl)
 
@@ -46,25 +51,31 @@ module _ (ks : List Kind) (sorts : List Sort) (T : Table ks sorts) where
       ]
 
   abbrev Less : Flat → Flat → Type 0
-  Less s u = (length u.0 ≡ length ks) × Legal (marked (tree_at ks 0) u.0) × (steps_left (marked (tree_at ks 0) u.0) < steps_left (marked (tree_at ks 0) s.0))
+  Less s u = (length u.0 ≡ length ks) × Legal (marked (tree_at ks 0) u.0)
+      × (steps_left (marked (tree_at ks 0) u.0) < steps_left (marked (tree_at ks 0) s.0))
 
-  less : (s : Flat) (i : ℕ) → length s.0 ≡ length ks → Legal (marked (tree_at ks 0) s.0) → Enabled ks s i → Less s (moved ks s i)
+  less : (s : Flat) (i : ℕ) → length s.0 ≡ length ks → Legal (marked (tree_at ks 0) s.0)
+      → Enabled ks s i → Less s (moved ks s i)
   less s i l g r =
       let S = sound ks sorts T in
       let N = length ks in
       let t = tree_at ks 0 in
-      subst (Less s) (moves ks sorts T s i r) (keeps N t S s i l, stays_legal N t S l g (then r still), falls_here N t S s i l g r)
+      subst (Less s) (moves ks sorts T s i r)
+      (keeps N t S s i l, stays_legal N t S l g (then r still), falls_here N t S s i l g r)
 
   -- the model's path is a run, and nothing is ready at its end
   abbrev RunsQuiet : Flat → List ℕ → Flat → Type 0
   RunsQuiet s w z = Run (Enabled ks) (moved ks) s w z × Quiet (Enabled ks) z
 
   abbrev PathRuns : ℕ → Flat → Type 0
-  PathRuns f s = length s.0 ≡ length ks → Legal (marked (tree_at ks 0) s.0) → steps_left (marked (tree_at ks 0) s.0) ≤ f
+  PathRuns f s = length s.0 ≡ length ks → Legal (marked (tree_at ks 0) s.0)
+      → steps_left (marked (tree_at ks 0) s.0) ≤ f
       → RunsQuiet s (path ks f s) (model ks f s)
 
-  one_more_turn : (f : ℕ) (s : Flat) → length s.0 ≡ length ks → Legal (marked (tree_at ks 0) s.0) → steps_left (marked (tree_at ks 0) s.0) ≤ suc f
-      → ((u : Flat) → PathRuns f u) → (o : Option ℕ) → Found (ready (tree_at ks 0) s.0 s.1) (length ks) o
+  one_more_turn : (f : ℕ) (s : Flat) → length s.0 ≡ length ks → Legal (marked (tree_at ks 0) s.0)
+      → steps_left (marked (tree_at ks 0) s.0) ≤ suc f
+      → ((u : Flat) → PathRuns f u) → (o : Option ℕ)
+      → Found (ready (tree_at ks 0) s.0 s.1) (length ks) o
       → RunsQuiet s (first_then o (λ i. path ks f (moved ks s i))) (model ks f (turned ks s o))
   one_more_turn f s l g b ih (Some i) h =
       let a = less s i l g h in
@@ -82,10 +93,12 @@ module _ (ks : List Kind) (sorts : List Sort) (T : Table ks sorts) where
         | inr h ↦ (still, h.0)
       ]
   path_runs (suc f) s l g b =
-      one_more_turn f s l g b (path_runs f) (lowest (ready (tree_at ks 0) s.0 s.1) (length ks)) (found (ready (tree_at ks 0) s.0 s.1) (length ks))
+      one_more_turn f s l g b (path_runs f) (lowest (ready (tree_at ks 0) s.0 s.1) (length ks))
+      (found (ready (tree_at ks 0) s.0 s.1) (length ks))
 
   -- 4 steps for each statement are enough
-  pub model_run : (s : Flat) → length s.0 ≡ length ks → LegalMarks ks s.0 → RunsQuiet s (path ks (enough ks) s) (model ks (enough ks) s)
+  pub model_run : (s : Flat) → length s.0 ≡ length ks → LegalMarks ks s.0
+      → RunsQuiet s (path ks (enough ks) s) (model ks (enough ks) s)
   model_run s l g =
       let S = sound ks sorts T in
       let h = to_legal ks sorts T s.0 g in

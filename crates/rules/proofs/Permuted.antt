@@ -1,4 +1,5 @@
--- lists that are permutations of each other, and transition systems of which two steps can be swapped
+-- lists that are permutations of each other, and transition systems of which two steps can be
+-- swapped
 use Rattle.std.proofs.Common.{◌≡◌, List, [], ◌∷◌}
 
 -- v is w without its first i
@@ -10,6 +11,8 @@ pub data Perm {L : Type 0} : List L → List L → Type 0 where
   none_left : Perm [] []
   one_more : {i : L} {w u v : List L} → Out i u v → Perm w v → Perm (i ∷ w) u
 
-pub record Diamond {S L : Type 0} (Ready : S → L → Type 0) (next : S → L → S) (Inv : S → Type 0) : Type 0 where
+pub record Diamond {S L : Type 0} (Ready : S → L → Type 0) (next : S → L → S)
+    (Inv : S → Type 0) : Type 0 where
   pub keep : (s : S) (i : L) → Inv s → Ready s i → Inv (next s i)
-  pub join : (s : S) (i j : L) → Inv s → ¬ (i ≡ j) → Ready s i → Ready s j → Ready (next s i) j × (next (next s i) j ≡ next (next s j) i)
+  pub join : (s : S) (i j : L) → Inv s → ¬ (i ≡ j) → Ready s i → Ready s j
+      → Ready (next s i) j × (next (next s i) j ≡ next (next s j) i)

@@ -1,7 +1,9 @@
 -- how many steps an instant can still take
-use Rattle.std.proofs.Common.{◌≡◌, ℕ, ◌+◌, ◌*◌, ◌≤◌, Bool, true, false, cond, ◌&&◌, ◌||◌, List, length}
+use Rattle.std.proofs.Common.{◌≡◌, ℕ, ◌+◌, ◌*◌, ◌≤◌, Bool, true, false, cond, ◌&&◌, ◌||◌, List}
+use Rattle.std.proofs.Common.{length}
 use Rattle.rules.specs.Runs.{Run}
-use Rattle.rules.proofs.MarkedTrees.{Mark, Idle, Waiting, UnderWay, Done, Leaf, nothing, stop, emit, wait, One, loop, kill, local, Two, sequence, parallel, when}
+use Rattle.rules.proofs.MarkedTrees.{Mark, Idle, Waiting, UnderWay, Done, Leaf, nothing, stop, emit}
+use Rattle.rules.proofs.MarkedTrees.{wait, One, loop, kill, local, Two, sequence, parallel, when}
 use Rattle.rules.proofs.MarkedTrees.{Marked, mleaf, mone, mtwo, Pos, rest, State, Can, next, Fine}
 
 abbrev pub size : Marked → ℕ
@@ -122,4 +124,5 @@ Turns (mtwo n k m p q) = Turns p × Turns q
 
 abbrev pub InstantEnds : Type 0
 InstantEnds =
-    (s z : State) (w : List Pos) → Fine s → Turns (rest s.0) → Run Can next s w z → length w + steps_left z.0 ≤ 4 * size s.0
+    (s z : State) (w : List Pos) → Fine s → Turns (rest s.0) → Run Can next s w z
+    → length w + steps_left z.0 ≤ 4 * size s.0

@@ -1,5 +1,6 @@
 -- the theorems of the rules, from the proofs on trees with marks
-use Rattle.std.proofs.Common.{◌≡◌, ℕ, ◌<◌, Bool, true, false, ◌&&◌, List, length, sym, refl, ap, ◌∙◌, subst, inl, inr, arith}
+use Rattle.std.proofs.Common.{◌≡◌, ℕ, ◌<◌, Bool, true, false, ◌&&◌, List, length, sym, refl, ap}
+use Rattle.std.proofs.Common.{◌∙◌, subst, inl, inr, arith}
 use Rattle.routine.specs.declared.kinds.Kind.{Kind}
 use Rattle.routine.specs.declared.kinds.SignalKind.{SignalKind}
 use Rattle.routine.specs.Kinds.{shape_at}
@@ -8,7 +9,8 @@ use Rattle.routine.proofs.Trees.{contains_in}
 use Rattle.rules.specs.Rules.{Mark, Signals, ready}
 use Rattle.rules.specs.Legal.{Legal, row_legal, open_legal}
 use Rattle.rules.specs.Model.{Config, Ready, stepped, settled, path, enough}
-use Rattle.rules.specs.Theorems.{Checked, NothingReadyInside, EitherOrder, OrderNeverShows, InstantEnds}
+use Rattle.rules.specs.Theorems.{Checked, NothingReadyInside, EitherOrder, OrderNeverShows}
+use Rattle.rules.specs.Theorems.{InstantEnds}
 use Rattle.rules.proofs.ByNumber.{Steps, go}
 use Rattle.rules.proofs.MarkedTrees.{State, Legal as Lawful}
 use Rattle.rules.proofs.Positions.{by_number}
@@ -27,8 +29,10 @@ use Rattle.rules.proofs.Inward.{none_in_over, none_in_ready}
 row_of : (a b c : Bool) → (a && (b && c)) ≡ true → b ≡ true
 row_of a b c h = grind arith
 
-pub rows : (in_instant : Bool) (ks : List Kind) (ms : List Mark) → Legal in_instant ks ms → LegalMarks ks ms
-rows in_instant ks ms L i l = row_of _ (row_legal ms i (shape_at ks i)) (open_legal in_instant ks ms i) (L.each i l)
+pub rows : (in_instant : Bool) (ks : List Kind) (ms : List Mark) → Legal in_instant ks ms
+    → LegalMarks ks ms
+rows in_instant ks ms L i l =
+    row_of _ (row_legal ms i (shape_at ks i)) (open_legal in_instant ks ms i) (L.each i l)
 
 module _ (gs : List SignalKind) (ks : List Kind) (C : Checked gs ks) where
   T : Table ks gs
@@ -37,10 +41,12 @@ module _ (gs : List SignalKind) (ks : List Kind) (C : Checked gs ks) where
   pub order_never_shows : OrderNeverShows gs ks
   order_never_shows =
       record {
-        same = λ c x y v w L r q r' q'. (orderless ks gs T).same c x y v w L.many (rows true ks c.0 L) r q r' q';
+        same = λ c x y v w L r q r' q'.
+            (orderless ks gs T).same c x y v w L.many (rows true ks c.0 L) r q r' q';
         as_model = λ c x v L r q.
             let m = model_run ks gs T c L.many (rows true ks c.0 L) in
-            (orderless ks gs T).same c x (settled ks (enough ks) c) v (path ks (enough ks) c) L.many (rows true ks c.0 L) r q m.0 m.1;
+            (orderless ks gs T).same c x (settled ks (enough ks) c) v (path ks (enough ks) c) L.many
+            (rows true ks c.0 L) r q m.0 m.1;
       }
 
   pub instant_ends : InstantEnds gs ks
@@ -68,8 +74,10 @@ module _ (gs : List SignalKind) (ks : List Kind) (C : Checked gs ks) where
       let v = to_tree N t S (from_root t c i) j li u in
       let v' = to_tree N t S (from_root t c j) i lj u' in
       let e : from_root t (from_root t c i) j ≡ from_root t (from_root t c j) i =
-      sim_inj N t S _ _ (keeps_length N t S (from_root t c i) j li) (keeps_length N t S (from_root t c j) i lj)
-      (sym v.1 ∙ ap (λ (s : State). go s j) (sym a.1) ∙ k.1 ∙ ap (λ (s : State). go s i) b.1 ∙ v'.1) in
+      sim_inj N t S _ _ (keeps_length N t S (from_root t c i) j li)
+      (keeps_length N t S (from_root t c j) i lj)
+      (sym v.1 ∙ ap (λ (s : State). go s j) (sym a.1) ∙ k.1 ∙ ap (λ (s : State). go s i) b.1
+      ∙ v'.1) in
       let mi = moves ks gs T c i r in
       let mj = moves ks gs T c j r' in
       let w : Ready ks (stepped ks c i) j = subst (λ (s : Config). Ready ks s j) mi u in
@@ -83,7 +91,8 @@ module _ (gs : List SignalKind) (ks : List Kind) (C : Checked gs ks) where
   false_true p q = let z : ◌≡◌ {A = ℕ} 0 1 = cc in omega arith
 
   -- what is ready is a statement
-  pub ready_below : (i : ℕ) (ms : List Mark) (e : Signals) → ready (tree_at ks 0) ms e i ≡ true → i < length ks
+  pub ready_below : (i : ℕ) (ms : List Mark) (e : Signals) → ready (tree_at ks 0) ms e i ≡ true
+      → i < length ks
   ready_below i ms e r =
       elim (In-dec (tree_at ks 0) i) [
         | inl u ↦ (sound ks gs T).below i u
@@ -94,11 +103,15 @@ module _ (gs : List SignalKind) (ks : List Kind) (C : Checked gs ks) where
   nothing_ready_inside =
       record {
         inside_over = λ c i j L l o h.
-            not_true _ (none_in_over ks T.shaped T.once T.some_row c.0 c.1 i j l L.many (at_tree c i l L) (whole i l) o (in_has (tree_at ks i) j (contains_in (tree_at ks i) j h)));
+            not_true _ (none_in_over ks T.shaped T.once T.some_row c.0 c.1 i j l L.many
+            (at_tree c i l L) (whole i l) o
+            (in_has (tree_at ks i) j (contains_in (tree_at ks i) j h)));
         never_inside = λ c i j L r r'.
             let l = ready_below i c.0 c.1 r in
-            not_true _ (λ h. none_in_ready ks T.shaped T.once T.some_row c.0 c.1 i j l L.many (at_tree c i l L) (whole i l) r h
-            (in_has (tree_at ks i) j (contains_in (tree_at ks i) j (inside_contains (tree_at ks i) j h))) r');
+            not_true _ (λ h. none_in_ready ks T.shaped T.once T.some_row c.0 c.1 i j l L.many
+            (at_tree c i l L) (whole i l) r h
+            (in_has (tree_at ks i) j
+            (contains_in (tree_at ks i) j (inside_contains (tree_at ks i) j h))) r');
       }
     where
       not_true : (b : Bool) → (b ≡ true → ⊥) → b ≡ false
@@ -108,5 +121,6 @@ module _ (gs : List SignalKind) (ks : List Kind) (C : Checked gs ks) where
       whole : (i : ℕ) → i < length ks → In (tree_at ks 0) i
       whole i l = (sound ks gs T).whole i l
 
-      at_tree : (c : Config) (i : ℕ) → i < length ks → Legal true ks c.0 → Lawful (marked (tree_at ks i) c.0)
+      at_tree : (c : Config) (i : ℕ) → i < length ks → Legal true ks c.0
+          → Lawful (marked (tree_at ks i) c.0)
       at_tree c i l L = legal_to ks T.shaped c.0 (rows true ks c.0 L) i l

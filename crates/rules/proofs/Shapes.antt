@@ -2,13 +2,15 @@
 use Rattle.std.proofs.Common.{◌≡◌, ℕ, true, List, set}
 use native.Mathlib.Decide.{ℕ_discrete}
 use Rattle.rules.proofs.MarkedTrees.{Mark, Idle, Done}
-use Rattle.rules.proofs.MarkedTrees.{Marked, mleaf, mone, mtwo, Signals, Effect, no_effect, raises, drops, apply, leaf_effect, one_effect}
+use Rattle.rules.proofs.MarkedTrees.{Marked, mleaf, mone, mtwo, Signals, Effect, no_effect, raises}
+use Rattle.rules.proofs.MarkedTrees.{drops, apply, leaf_effect, one_effect}
 use Rattle.rules.proofs.ByNumber.{pick}
 pub use Rattle.routine.specs.declared.kinds.Kind.{Kind}
 pub use Rattle.routine.specs.declared.kinds.Kind.TheVariants.{Nothing}
 pub use Rattle.routine.specs.Kinds.{Shape, no_part, one_part, two_parts, shape, shape_at}
 pub use Rattle.routine.specs.Tree.{Tree, leaf, one, two, node, tree, tree_at}
-pub use Rattle.rules.specs.Rules.{at, begun, idled, over, leaf_rule, one_rule, two_rule, ready, one_fired, two_fired}
+pub use Rattle.rules.specs.Rules.{at, begun, idled, over, leaf_rule, one_rule, two_rule, ready}
+pub use Rattle.rules.specs.Rules.{one_fired, two_fired}
 
 -- a shape without marks, as a tree: all idle
 abbrev pub blank : Tree → Marked

@@ -1,5 +1,6 @@
 -- the steps of a run, counted statement by statement; so what a run comes to is what the model says
-use Rattle.std.proofs.Common.{◌≡◌, ℕ, zero, suc, ◌+◌, ◌<◌, ◌≤◌, List, [], ◌∷◌, ◌++◌, length, sym, refl, ap, ◌∙◌, subst, arith}
+use Rattle.std.proofs.Common.{◌≡◌, ℕ, zero, suc, ◌+◌, ◌<◌, ◌≤◌, List, [], ◌∷◌, ◌++◌, length, sym}
+use Rattle.std.proofs.Common.{refl, ap, ◌∙◌, subst, arith}
 use native.Mathlib.Decide.{ℕ_discrete}
 use Rattle.signals.specs.Sets.{word_set}
 use Rattle.routine.specs.declared.kinds.Kind.{Kind}
@@ -7,7 +8,8 @@ use Rattle.routine.specs.declared.kinds.SignalKind.{SignalKind}
 use Rattle.rules.specs.Runs.{Run, still, then, occurrences}
 use Rattle.routine.specs.Tree.{tree_at}
 use Rattle.rules.specs.Rules.{over, ended}
-use Rattle.rules.specs.Model.{Config, Ready, stepped, path, enough, each_below, total, outputs_of, status_of}
+use Rattle.rules.specs.Model.{Config, Ready, stepped, path, enough, each_below, total, outputs_of}
+use Rattle.rules.specs.Model.{status_of}
 use Rattle.rules.specs.Theorems.{Checked, StepsAddUp, SameOutcome}
 use Rattle.rules.proofs.Promises.{instant_ends, order_never_shows, ready_below}
 use Rattle.rules.proofs.Stays.{marks_stay_legal}
@@ -23,7 +25,8 @@ pub data Below (n : ℕ) : List ℕ → Type 0 where
 
 none_counted : (n : ℕ) → total (each_below (λ i. occurrences ℕ_discrete i []) n) ≡ 0
 none_counted zero = refl
-none_counted (suc n) = let h = none_counted n in let g = total_push (each_below (λ i. occurrences ℕ_discrete i []) n) 0 in omega arith
+none_counted (suc n) = let h = none_counted n in
+    let g = total_push (each_below (λ i. occurrences ℕ_discrete i []) n) 0 in omega arith
 
 -- one more step of statement j adds one, once the sum has come past j
 module _ (j : ℕ) (w : List ℕ) where
@@ -61,20 +64,29 @@ module _ (j : ℕ) (w : List ℕ) where
         | no d ↦ let h = one_more n (omega arith) in let c = other n d in omega arith
       ]
 
-pub counted : (n : ℕ) {w : List ℕ} → Below n w → total (each_below (λ i. occurrences ℕ_discrete i w) n) ≡ length w
+pub counted : (n : ℕ) {w : List ℕ} → Below n w
+    → total (each_below (λ i. occurrences ℕ_discrete i w) n) ≡ length w
 counted n none = none_counted n
-counted n (more {i = i} {w = w} l b) = let h = counted n b in let g = one_more i w n l in omega arith
+counted n (more {i = i} {w = w} l b) = let h = counted n b in let g = one_more i w n l in
+    omega arith
 
-pub run_below : (gs : List SignalKind) (ks : List Kind) (C : Checked gs ks) {c x : Config} {w : List ℕ} → Run (Ready ks) (stepped ks) c w x → Below (length ks) w
+pub run_below : (gs : List SignalKind) (ks : List Kind)
+    (C : Checked gs ks) {c x : Config} {w : List ℕ} → Run (Ready ks) (stepped ks) c w x
+    → Below (length ks) w
 run_below gs ks C still = none
-run_below gs ks C {c = c} (then {i = i} r h) = more (ready_below gs ks C i c.0 c.1 r) (run_below gs ks C h)
+run_below gs ks C {c = c} (then {i = i} r h) =
+    more (ready_below gs ks C i c.0 c.1 r) (run_below gs ks C h)
 
 pub steps_add_up : (gs : List SignalKind) (ks : List Kind) → Checked gs ks → StepsAddUp gs ks
 steps_add_up gs ks C ms input L =
-    counted (length ks) (run_below gs ks C ((instant_ends gs ks C).model_runs (ms, word_set input) ((marks_stay_legal gs ks C).begins ms L)))
+    counted (length ks) (run_below gs ks C
+    ((instant_ends gs ks C).model_runs (ms, word_set input)
+    ((marks_stay_legal gs ks C).begins ms L)))
 
-same_times : (v w : List ℕ) (n : ℕ) → ((i : ℕ) → occurrences ℕ_discrete i v ≡ occurrences ℕ_discrete i w)
-    → each_below (λ i. occurrences ℕ_discrete i v) n ≡ each_below (λ i. occurrences ℕ_discrete i w) n
+same_times : (v w : List ℕ) (n : ℕ)
+    → ((i : ℕ) → occurrences ℕ_discrete i v ≡ occurrences ℕ_discrete i w)
+    → each_below (λ i. occurrences ℕ_discrete i v) n
+    ≡ each_below (λ i. occurrences ℕ_discrete i w) n
 same_times v w zero h = refl
 same_times v w (suc n) h = λ j. same_times v w n h j ++ (h n j ∷ [])
 
@@ -84,7 +96,8 @@ same_outcome gs ks C ms input x v L r q =
     let o = (order_never_shows gs ks C).as_model c x v L r q in
     let times = same_times v (path ks (enough ks) c) (length ks) o.1 in
     let steps : length v ≡ length (path ks (enough ks) c) =
-    sym (counted (length ks) (run_below gs ks C r)) ∙ ap total times ∙ counted (length ks) (run_below gs ks C ((instant_ends gs ks C).model_runs c L)) in
+    sym (counted (length ks) (run_below gs ks C r)) ∙ ap total times
+    ∙ counted (length ks) (run_below gs ks C ((instant_ends gs ks C).model_runs c L)) in
     λ j. record {
       outputs = outputs_of gs (o.0 j).1;
       status = status_of (over (tree_at ks 0) (o.0 j).0);

@@ -1,5 +1,6 @@
 -- what cannot end at once is not over in the instant in which it is begun
-use Rattle.std.proofs.Common.{◌≡◌, ℕ, ◌<◌, Bool, true, false, List, length, replicate, sym, refl, ap, ◌∙◌, subst, inl, inr, arith}
+use Rattle.std.proofs.Common.{◌≡◌, ℕ, ◌<◌, Bool, true, false, List, length, replicate, sym, refl}
+use Rattle.std.proofs.Common.{ap, ◌∙◌, subst, inl, inr, arith}
 use Rattle.routine.specs.declared.kinds.Kind.{Kind}
 use Rattle.routine.specs.declared.kinds.SignalKind.{SignalKind}
 use Rattle.routine.specs.Tree.{Tree, tree_at, contains, can_end}
@@ -29,7 +30,8 @@ not_true : (b : Bool) → (b ≡ true → ⊥) → b ≡ false
 not_true true h = absurd (h refl)
 not_true false h = refl
 
-module _ (gs : List SignalKind) (ks : List Kind) (C : Checked gs ks) (i : ℕ) (l : i < length ks) where
+module _ (gs : List SignalKind) (ks : List Kind) (C : Checked gs ks) (i : ℕ)
+    (l : i < length ks) where
   T : Table ks gs
   T = table gs ks C
 
@@ -51,35 +53,51 @@ module _ (gs : List SignalKind) (ks : List Kind) (C : Checked gs ks) (i : ℕ) (
     pub never : may (marked t (fire (tree_at ks j) ms)) ≡ true → may (marked t ms) ≡ true
     pub many : length (fire (tree_at ks j) ms) ≡ length ms
 
-  moved : (ms : List Mark) (e : Signals) (j : ℕ) → length ms ≡ length ks → Legal (marked t ms) → ready t ms e j ≡ true → Moved ms j
+  moved : (ms : List Mark) (e : Signals) (j : ℕ) → length ms ≡ length ks → Legal (marked t ms)
+      → ready t ms e j ≡ true → Moved ms j
   moved ms e j m g r =
-      let h : In t j = elim (In-dec t j) [ inl u ↦ u | inr d ↦ absurd (false_true (unready t ms e j d) r) ] in
-      let o : fired t ms j ≡ fire (tree_at ks j) ms = (told ks T.shaped T.once ms e j i l h).marks in
+      let h : In t j = elim (In-dec t j) [
+        | inl u ↦ u
+        | inr d ↦ absurd (false_true (unready t ms e j d) r)
+      ] in
+      let o : fired t ms j ≡ fire (tree_at ks j) ms =
+      (told ks T.shaped T.once ms e j i l h).marks in
       let a = rw r at (step_same (length ks) e j t ms apart fits m) in
       let p = step_to e j (marked t ms) g _ a in
-      let x : marked t (fire (tree_at ks j) ms) ≡ after (marked t ms) p.0 = ap (marked t) (sym o) ∙ ap (λ (q : Marked × Effect). q.0) p.3 in
+      let x : marked t (fire (tree_at ks j) ms) ≡ after (marked t ms) p.0 =
+      ap (marked t) (sym o) ∙ ap (λ (q : Marked × Effect). q.0) p.3 in
       record {
         legal = subst Legal (sym x) (after_legal e (marked t ms) g p.0 p.2).0;
         never = λ w. (falls e (marked t ms) g (turning ms) p.0 p.2).never (ap may (sym x) ∙ w);
         many = ap length (sym o) ∙ (fired_kept t ms j).length;
       }
 
-  stays : {ms ns : List Mark} → length ms ≡ length ks → Legal (marked t ms) → may (marked t ms) ≡ false → InsideSteps ks i ms ns → over t ns ≡ false
+  stays : {ms ns : List Mark} → length ms ≡ length ks → Legal (marked t ms)
+      → may (marked t ms) ≡ false → InsideSteps ks i ms ns → over t ns ≡ false
   stays {ms = ms} m g f none_yet =
-      not_true (over t ms) (λ o. false_true f (over_may (marked t ms) g (over_says (marked t ms) g (sym (over_same t ms) ∙ o))))
+      not_true (over t ms) (λ o.
+      false_true f (over_may (marked t ms) g
+      (over_says (marked t ms) g (sym (over_same t ms) ∙ o))))
   stays {ms = ms} m g f (and_then e j r rest_of) =
       let u = moved ms e j m g r in
       stays (u.many ∙ m) u.legal (not_true _ (λ w. false_true f (u.never w))) rest_of
 
-  pub takes_time : (ms ns : List Mark) → length ms ≡ length ks → can_end t ≡ false → ((j : ℕ) → contains t j ≡ true → at ms j ≡ Idle)
+  pub takes_time : (ms ns : List Mark) → length ms ≡ length ks → can_end t ≡ false
+      → ((j : ℕ) → contains t j ≡ true → at ms j ≡ Idle)
       → InsideSteps ks i (begun t ms) ns → over t ns ≡ false
   takes_time ms ns m c h s =
       let os = replicate (length ks) Idle in
-      let b : marked t ms ≡ blank t = frame t os ms (λ j u. h j (in_contains t j (has_in t j u)) ∙ sym (all_idle (length ks) j)) ∙ idle_blank t (length ks) in
-      let r : (Legal (blank t) × (live (blank t) ≡ false)) = subst (λ u. Legal u × (live u ≡ false)) (marked_rest t ms) (rest_legal (marked t ms)) in
-      let e : marked t (begun t ms) ≡ begin (blank t) = begun_same (length ks) t ms apart fits m ∙ ap begin b in
-      let f : may (marked t (begun t ms)) ≡ false = ap may e ∙ (fresh (blank t) r.0 r.1).ending ∙ ends_same t ∙ c in
-      stays ((begun_kept t ms).length ∙ m) (subst Legal (sym e) (begin_legal (blank t) r.0 r.1).0) f s
+      let b : marked t ms ≡ blank t =
+      frame t os ms (λ j u. h j (in_contains t j (has_in t j u)) ∙ sym (all_idle (length ks) j))
+      ∙ idle_blank t (length ks) in
+      let r : (Legal (blank t) × (live (blank t) ≡ false)) =
+      subst (λ u. Legal u × (live u ≡ false)) (marked_rest t ms) (rest_legal (marked t ms)) in
+      let e : marked t (begun t ms) ≡ begin (blank t) =
+      begun_same (length ks) t ms apart fits m ∙ ap begin b in
+      let f : may (marked t (begun t ms)) ≡ false =
+      ap may e ∙ (fresh (blank t) r.0 r.1).ending ∙ ends_same t ∙ c in
+      stays ((begun_kept t ms).length ∙ m)
+      (subst Legal (sym e) (begin_legal (blank t) r.0 r.1).0) f s
 
 pub what_takes_time : (gs : List SignalKind) (ks : List Kind) → Checked gs ks → TakesTime gs ks
 what_takes_time gs ks C i ms ns l m c h s = takes_time gs ks C i l ms ns m c h s

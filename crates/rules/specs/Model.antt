@@ -1,5 +1,7 @@
--- the plain model: the lowest ready statement goes first, until none is ready; then the instant ends
-use Rattle.std.specs.Prelude.{◌≡◌, ℕ, zero, suc, ◌+◌, ◌*◌, Bool, true, false, cond, ◌&&◌, List, [], ◌∷◌, ◌++◌, length, replicate, Some, None, Option, slice_index_or}
+-- the plain model: the lowest ready statement goes first, until none is ready; then the instant
+-- ends
+use Rattle.std.specs.Prelude.{◌≡◌, ℕ, zero, suc, ◌+◌, ◌*◌, Bool, true, false, cond, ◌&&◌, List, []}
+use Rattle.std.specs.Prelude.{◌∷◌, ◌++◌, length, replicate, Some, None, Option, slice_index_or}
 use Rattle.std.proofs.Math.Decide.{ℕ_discrete}
 use Rattle.signals.specs.Sets.{word_set}
 use Rattle.routine.specs.declared.kinds.Kind.{Kind}
@@ -11,7 +13,8 @@ use Rattle.routine.specs.Meaning.{signal_at}
 use Rattle.rules.specs.declared.status.Status.{Status}
 use Rattle.rules.specs.declared.status.Status.TheVariants.{Suspended, Terminated}
 use Rattle.rules.specs.Runs.{occurrences}
-use Rattle.rules.specs.Rules.{Mark, Idle, Signals, begun, over, ready, fire, effect_of, apply, ended}
+use Rattle.rules.specs.Rules.{Mark, Idle, Signals, begun, over, ready, fire, effect_of, apply}
+use Rattle.rules.specs.Rules.{ended}
 
 -- where an open instant stands: a mark for each statement, and the present signals
 abbrev pub Config : Type 0
@@ -62,7 +65,8 @@ word_from P (suc n) i = cond (P i) 1 0 + 2 * word_from P n (i + 1)
 
 -- the word of the present output signals
 abbrev pub outputs_of : List SignalKind → Signals → ℕ
-outputs_of gs e = word_from (λ s. is_output (signal_at gs s) && slice_index_or e s false) (length gs) 0
+outputs_of gs e = word_from (λ s. is_output (signal_at gs s) && slice_index_or e s false)
+    (length gs) 0
 
 -- f of each number below n
 abbrev pub each_below : (ℕ → ℕ) → ℕ → List ℕ
@@ -103,7 +107,8 @@ closed gs ks c w =
 -- one instant, from the marks ms, for an input word
 abbrev pub instant : List SignalKind → List Kind → List Mark → ℕ → Outcome
 instant gs ks ms input =
-    closed gs ks (settled ks (enough ks) (ms, word_set input)) (path ks (enough ks) (ms, word_set input))
+    closed gs ks (settled ks (enough ks) (ms, word_set input))
+    (path ks (enough ks) (ms, word_set input))
 
 -- at first statement 0 is begun and all else is idle
 abbrev pub first_marks : List Kind → List Mark
@@ -111,7 +116,8 @@ first_marks ks = begun (tree_at ks 0) (replicate (length ks) Idle)
 
 abbrev pub instants_from : List SignalKind → List Kind → List Mark → List ℕ → List Outcome
 instants_from gs ks ms [] = []
-instants_from gs ks ms (input ∷ later) = instant gs ks ms input ∷ instants_from gs ks (instant gs ks ms input).marks later
+instants_from gs ks ms (input ∷ later) =
+    instant gs ks ms input ∷ instants_from gs ks (instant gs ks ms input).marks later
 
 -- the model: what each input word comes to, one after another
 abbrev pub model : List SignalKind → List Kind → List ℕ → List Outcome

@@ -1,9 +1,12 @@
--- the rules of the language, over a routine's tree, a mark for each statement and the set of present signals
-use Rattle.std.specs.Prelude.{ℕ, Bool, true, false, cond, not, ◌&&◌, ◌||◌, List, slice_index_or, slice_set}
+-- the rules of the language, over a routine's tree, a mark for each statement and the set of
+-- present signals
+use Rattle.std.specs.Prelude.{ℕ, Bool, true, false, cond, not, ◌&&◌, ◌||◌, List, slice_index_or}
+use Rattle.std.specs.Prelude.{slice_set}
 use Rattle.std.proofs.Math.Decide.{ℕ_discrete}
 pub use Rattle.routine.specs.declared.kinds.Mark.{Mark}
 pub use Rattle.routine.specs.declared.kinds.Mark.TheVariants.{Idle, Waiting, UnderWay, Done}
-pub use Rattle.routine.specs.Kinds.{Leaf, nothing, stop, emit, wait, One, loop, kill, local, Two, sequence, parallel, when}
+pub use Rattle.routine.specs.Kinds.{Leaf, nothing, stop, emit, wait, One, loop, kill, local, Two}
+pub use Rattle.routine.specs.Kinds.{sequence, parallel, when}
 pub use Rattle.routine.specs.Tree.{Tree, leaf, one, two}
 
 -- the set of present signals: one Boolean for each number
@@ -32,8 +35,9 @@ is_done Waiting = false
 is_done UnderWay = false
 is_done Done = true
 
--- TO BEGIN a statement: nothing is done; stop, emit, wait, loop and when wait; a sequence or kill is under way and its
--- first is begun; a parallel is under way and both parts are begun; a local waits and its first is begun
+-- TO BEGIN a statement: nothing is done; stop, emit, wait, loop and when wait; a sequence or kill
+-- is under way and its first is begun; a parallel is under way and both parts are begun; a local
+-- waits and its first is begun
 abbrev pub leaf_begun : Leaf → Mark
 leaf_begun nothing = Done
 leaf_begun stop = Waiting
@@ -55,8 +59,8 @@ idled (leaf n k) ms = slice_set ms n Idle
 idled (one n k p) ms = idled p (slice_set ms n Idle)
 idled (two n k p q) ms = idled q (idled p (slice_set ms n Idle))
 
--- OVER are: what is done, a parallel whose parts are both over, a sequence whose second is over, a when with a part that
--- is over
+-- OVER are: what is done, a parallel whose parts are both over, a sequence whose second is over, a
+-- when with a part that is over
 abbrev pub two_over : Two → Bool → Bool → Bool
 two_over sequence p q = q
 two_over parallel p q = p && q
@@ -78,7 +82,8 @@ leaf_rule e Waiting (wait s) = slice_index_or e s false
 leaf_rule e UnderWay k = false
 leaf_rule e Done k = false
 
--- loop that waits, or whose first is over; kill whose first is over; local that waits, or is under way with its first over
+-- loop that waits, or whose first is over; kill whose first is over; local that waits, or is under
+-- way with its first over
 abbrev pub one_rule : Mark → One → Bool → Bool
 one_rule Idle loop o = o
 one_rule Waiting loop o = true
@@ -113,11 +118,15 @@ shut Waiting (local s) = true
 shut UnderWay k = false
 shut Done k = false
 
--- statement i, of the tree, is ready: its rule applies, and it does not lie inside a local that is shut
+-- statement i, of the tree, is ready: its rule applies, and it does not lie inside a local that is
+-- shut
 abbrev pub ready : Tree → List Mark → Signals → ℕ → Bool
 ready (leaf n k) ms e i = pick (ℕ_discrete i n) (leaf_rule e (at ms n) k) false
-ready (one n k p) ms e i = pick (ℕ_discrete i n) (one_rule (at ms n) k (over p ms)) (not (shut (at ms n) k) && ready p ms e i)
-ready (two n k p q) ms e i = pick (ℕ_discrete i n) (two_rule e (at ms n) k (over p ms)) (ready p ms e i || ready q ms e i)
+ready (one n k p) ms e i =
+    pick (ℕ_discrete i n) (one_rule (at ms n) k (over p ms))
+    (not (shut (at ms n) k) && ready p ms e i)
+ready (two n k p q) ms e i =
+    pick (ℕ_discrete i n) (two_rule e (at ms n) k (over p ms)) (ready p ms e i || ready q ms e i)
 
 -- statement i is in the tree, and not inside a local that is shut
 abbrev pub reached : Tree → List Mark → ℕ → Bool
@@ -125,8 +134,9 @@ reached (leaf n k) ms i = pick (ℕ_discrete i n) true false
 reached (one n k p) ms i = pick (ℕ_discrete i n) true (not (shut (at ms n) k) && reached p ms i)
 reached (two n k p q) ms i = pick (ℕ_discrete i n) true (reached p ms i || reached q ms i)
 
--- THE STEP of a ready statement: its marks. Loop that waits: under way, begin first. Loop with first over: idle first, wait.
--- Kill: idle first, done. Local that waits: under way. Local with first over: idle first, done
+-- THE STEP of a ready statement: its marks. Loop that waits: under way, begin first. Loop with
+-- first over: idle first, wait. Kill: idle first, done. Local that waits: under way. Local with
+-- first over: idle first, done
 abbrev pub one_fired : ℕ → Mark → One → Tree → List Mark → List Mark
 one_fired n Idle loop p ms = idled p (slice_set ms n Waiting)
 one_fired n Waiting loop p ms = begun p (slice_set ms n UnderWay)
@@ -176,9 +186,10 @@ apply no_effect e = e
 apply (raises s) e = slice_set e s true
 apply (drops s) e = slice_set e s false
 
--- THE END OF THE INSTANT, down from the tree's statement. What is over keeps its marks. Stop is done. Wait stays. When that
--- waits is under way and its second is begun. Sequence, parallel, loop and when under way pass the end to their live parts.
--- Kill with its signal present idles its first and is done, else it passes the end on. Local waits and passes it on
+-- THE END OF THE INSTANT, down from the tree's statement. What is over keeps its marks. Stop is
+-- done. Wait stays. When that waits is under way and its second is begun. Sequence, parallel, loop
+-- and when under way pass the end to their live parts. Kill with its signal present idles its first
+-- and is done, else it passes the end on. Local waits and passes it on
 abbrev pub leaf_ended : ℕ → Mark → Leaf → List Mark → List Mark
 leaf_ended n Idle k ms = ms
 leaf_ended n Waiting nothing ms = ms
@@ -189,18 +200,21 @@ leaf_ended n UnderWay k ms = ms
 leaf_ended n Done k ms = ms
 
 -- go: the end of the part
-abbrev pub one_ended : ℕ → Mark → One → Tree → (List Mark → List Mark) → List Mark → Signals → List Mark
+abbrev pub one_ended : ℕ → Mark → One → Tree → (List Mark → List Mark) → List Mark → Signals
+    → List Mark
 one_ended n Idle k p go ms e = ms
 one_ended n Waiting loop p go ms e = ms
 one_ended n Waiting (kill s) p go ms e = ms
 one_ended n Waiting (local s) p go ms e = go (slice_set ms n Waiting)
 one_ended n UnderWay loop p go ms e = go ms
-one_ended n UnderWay (kill s) p go ms e = cond (slice_index_or e s false) (idled p (slice_set ms n Done)) (go ms)
+one_ended n UnderWay (kill s) p go ms e =
+    cond (slice_index_or e s false) (idled p (slice_set ms n Done)) (go ms)
 one_ended n UnderWay (local s) p go ms e = go (slice_set ms n Waiting)
 one_ended n Done k p go ms e = ms
 
 -- o: whether the statement is over
-abbrev pub two_ended : ℕ → Mark → Two → Bool → Tree → (List Mark → List Mark) → (List Mark → List Mark) → List Mark → List Mark
+abbrev pub two_ended : ℕ → Mark → Two → Bool → Tree → (List Mark → List Mark)
+    → (List Mark → List Mark) → List Mark → List Mark
 two_ended n Idle k o q go go' ms = ms
 two_ended n Waiting sequence o q go go' ms = ms
 two_ended n Waiting parallel o q go go' ms = ms
@@ -211,4 +225,6 @@ two_ended n Done k o q go go' ms = ms
 abbrev pub ended : Tree → List Mark → Signals → List Mark
 ended (leaf n k) ms e = leaf_ended n (at ms n) k ms
 ended (one n k p) ms e = one_ended n (at ms n) k p (λ ns. ended p ns e) ms e
-ended (two n k p q) ms e = two_ended n (at ms n) k (two_over k (over p ms) (over q ms)) q (λ ns. ended p ns e) (λ ns. ended q ns e) ms
+ended (two n k p q) ms e =
+    two_ended n (at ms n) k (two_over k (over p ms) (over q ms)) q (λ ns. ended p ns e)
+    (λ ns. ended q ns e) ms

@@ -1,5 +1,6 @@
 -- what is written of an instant
-use Rattle.std.specs.Prelude.{ℕ, zero, suc, ◌+◌, ◌/◌, ◌%◌, ◌^◌, cond, List, [], ◌∷◌, ◌++◌, codes, decimal, nat_lt}
+use Rattle.std.specs.Prelude.{ℕ, zero, suc, ◌+◌, ◌/◌, ◌%◌, ◌^◌, cond, List, [], ◌∷◌, ◌++◌, codes}
+use Rattle.std.specs.Prelude.{decimal, nat_lt}
 use Rattle.rules.specs.declared.status.Status.{Status}
 use Rattle.rules.specs.Letters.{letter_of}
 
@@ -15,4 +16,5 @@ hex (suc i) n = digit (n / 16 ^ i % 16) ∷ hex i n
 -- an instant: its number, the output word, the status, the steps
 abbrev pub instant_text : ℕ → ℕ → Status → ℕ → List ℕ
 instant_text instant outputs status steps =
-    decimal instant ++ (codes " " ++ (hex 16 outputs ++ (codes " " ++ (letter_of status ++ (codes " " ++ decimal steps)))))
+    decimal instant ++ (codes " "
+    ++ (hex 16 outputs ++ (codes " " ++ (letter_of status ++ (codes " " ++ decimal steps)))))

@@ -1,5 +1,6 @@
 -- what a count has still to print, and what it prints of one word
-use Rattle.std.proofs.Common.{◌≡◌, ℕ, Bool, List, [], ◌∷◌, ◌++◌, Some, None, Ok, Err, Option, append_assoc, sym, ap, ◌∙◌}
+use Rattle.std.proofs.Common.{◌≡◌, ℕ, Bool, List, [], ◌∷◌, ◌++◌, Some, None, Ok, Err, Option}
+use Rattle.std.proofs.Common.{append_assoc, sym, ap, ◌∙◌}
 use Rattle.std.proofs.lemmas.List.{append-nil}
 use Rattle.routine.specs.declared.refusals.Refusal.{Refusal}
 use Rattle.signals.specs.declared.board.Board.{Ghosts}
@@ -12,11 +13,13 @@ use Rattle.count.specs.CountView.{kinds_of, signals_of, state_of, Reacts}
 use Rattle.run.specs.Listing.{closing_line, refused_line, line_of, lines}
 
 -- an answer that is Ok was not refused
-taken : (why : Option Refusal) (x y : Closing) (s t u : State) (f : State → List ℕ) → Ok x ≡ answer why y → t ≡ after why s u → line_of why y (f u) ≡ closing_line x ++ f t
+taken : (why : Option Refusal) (x y : Closing) (s t u : State) (f : State → List ℕ)
+    → Ok x ≡ answer why y → t ≡ after why s u → line_of why y (f u) ≡ closing_line x ++ f t
 taken None x y s t u f p q = cc
 taken (Some e) x y s t u f p q = cc
 
-refused : (why : Option Refusal) (e : Refusal) (y : Closing) (rest : List ℕ) → Err e ≡ answer why y → line_of why y rest ≡ refused_line e
+refused : (why : Option Refusal) (e : Refusal) (y : Closing) (rest : List ℕ) → Err e ≡ answer why y
+    → line_of why y rest ≡ refused_line e
 refused None e y rest p = cc
 refused (Some x) e y rest p = cc
 
@@ -27,10 +30,12 @@ module _ {B : Type 0} {G : Ghosts B} (present : B → List Bool) where
 
   -- it reacts to the next word and is d: a was written before, and then b
   module _ (c d : Count B G) (w : ℕ) (ws a b t : List ℕ) (todo : a ++ to_come c (w ∷ ws) ≡ t) where
-    pub line_more : (x : Closing) → Reacts present c d w (Ok x) → b ≡ a ++ closing_line x → b ++ to_come d ws ≡ t
+    pub line_more : (x : Closing) → Reacts present c d w (Ok x) → b ≡ a ++ closing_line x
+        → b ++ to_come d ws ≡ t
     unfolding lines
     line_more x r e =
-        let told = taken _ x _ _ _ _ (λ s. lines (signals_of c) (kinds_of c) s ws) r.says r.leaves in
+        let told = taken _ x _ _ _ _
+        (λ s. lines (signals_of c) (kinds_of c) s ws) r.says r.leaves in
         rw (e, append_assoc a, r.signals, r.kinds, ← told) todo
 
     pub line_last : (e : Refusal) → Reacts present c d w (Err e) → b ≡ a ++ refused_line e → b ≡ t

@@ -30,10 +30,13 @@ line_of None c rest = closing_line c ++ rest
 -- the lines of a count in state s, which reacts to each word
 unfoldable pub lines : List SignalKind → List Kind → State → List ℕ → List ℕ
 lines gs ks s [] = []
-lines gs ks s (w ∷ ws) = line_of (begin_refusal gs s w) (react_closing gs ks s w) (lines gs ks (react_state gs ks s w) ws)
+lines gs ks s (w ∷ ws) =
+    line_of (begin_refusal gs s w) (react_closing gs ks s w)
+    (lines gs ks (react_state gs ks s w) ws)
 
 -- a table that is no routine is refused; else a new count reacts to the words
-abbrev pub started : Result (List SignalKind × List Statement) Refusal → List ℕ → Result (List ℕ) Refusal
+abbrev pub started : Result (List SignalKind × List Statement) Refusal → List ℕ
+    → Result (List ℕ) Refusal
 started (Ok p) ws = Ok (lines p.0 (kinds p.1) (new_state (kinds p.1)) ws)
 started (Err e) ws = Err e
 

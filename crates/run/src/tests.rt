@@ -9,7 +9,8 @@ fn prints(rt: &(impl Abort + AllocGlobal), bytes: &[u8], text: &str) -> Result<(
     Ok(())
 }
 
-// Worked routines: nothing, stop, relayed, a second part too late, killed, over already, a new life, emitted.
+// Worked routines: nothing, stop, relayed, a second part too late, killed, over already, a new
+// life, emitted.
 #[test]
 fn worked(rt: HostRuntime) -> Result<(), Fail> {
     prints(
@@ -116,7 +117,8 @@ fn digits(rt: HostRuntime) -> Result<(), Fail> {
     )
 }
 
-// Loops in one another around a stop, with so many inputs and statements; and a word with all bits set.
+// Loops in one another around a stop, with so many inputs and statements; and a word with all bits
+// set.
 fn nest(heap: Global, signals: u16, statements: u16) -> Result<Vec<u8>, Fail> {
     let mut table = Vec::new(heap);
     for word in [8, signals, signals.wrapping_add(8), statements] {

@@ -1,5 +1,6 @@
 -- Sets of the signals 0 to 63, as lists of 64 truth values: at place k, is signal k in the set?
-use Rattle.std.specs.Prelude.{ℕ, ◌+◌, ◌/◌, ◌%◌, ◌^◌, Bool, false, cond, List, map, replicate, nat_eq, nat_lt, slice_index}
+use Rattle.std.specs.Prelude.{ℕ, ◌+◌, ◌/◌, ◌%◌, ◌^◌, Bool, false, cond, List, map, replicate}
+use Rattle.std.specs.Prelude.{nat_eq, nat_lt, slice_index}
 use Rattle.std.specs.List.{range_with_len}
 
 -- the set of no signal

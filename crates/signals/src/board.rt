@@ -1,8 +1,13 @@
-ghost use Rattle.std.specs.Prelude.{◌≡◌, Bool, true, false, List, length, slice_index_or, slice_set};
+ghost use Rattle.std.specs.Prelude.{◌≡◌, Bool, true, false, List, length, slice_index_or};
+ghost use Rattle.std.specs.Prelude.{slice_set};
 ghost use Rattle.signals.specs.Sets.{empty};
 
-// Which of the signals 0 to 63 are present. A call takes any number: `slice_set` leaves a list as it is past its
-// end, and `slice_index_or` gives its default there, so above 63 `raise` and `lower` alter nothing and `ask` says no.
+/// How many signals a board keeps: those from 0 to 63.
+pub const SIGNALS: usize = 64;
+
+// Which of the signals 0 to 63 are present. A call takes any number: `slice_set` leaves a list as
+// it is past its end, and `slice_index_or` gives its default there, so above 63 `raise` and `lower`
+// alter nothing and `ask` says no.
 pub trait Board {
     // The present signals: at place k, is signal k present?
     ghost present: { Self → List Bool };

@@ -5,7 +5,7 @@ mod board;
 mod stamps;
 
 pub use bits::BitBoard;
-pub use board::Board;
+pub use board::{Board, SIGNALS};
 pub use stamps::StampBoard;
 
 #[cfg(test)]

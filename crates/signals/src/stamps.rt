@@ -1,11 +1,12 @@
-ghost use Rattle.std.specs.Prelude.{◌≡◌, ℕ, ◌<◌, ◌≤◌, true, false, replicate, slice_index, slice_set};
+ghost use Rattle.std.specs.Prelude.{◌≡◌, ℕ, ◌<◌, ◌≤◌, true, false, replicate, slice_index};
+ghost use Rattle.std.specs.Prelude.{slice_set};
 ghost use Rattle.signals.specs.Sets.{empty, stamp_set, next_stamp, wiped_stamps};
 ghost use Rattle.signals.specs.Sizes.{length-stamp_set};
 
 use super::board::Board;
 
-// A board with a stamp for each signal: signal k is present where its stamp is the current one.
-// A wipe goes on to the next stamp, which no signal has. After the last stamp it sets all stamps to 0
+// A board with a stamp for each signal: signal k is present where its stamp is the current one. A
+// wipe goes on to the next stamp, which no signal has. After the last stamp it sets all stamps to 0
 // and begins again with 1. No `impl Model`: the contracts speak of the stamps.
 #[derive(Debug, Drop)]
 pub struct StampBoard {
@@ -61,7 +62,8 @@ impl Board for StampBoard {
     }
 
     fn raise(&mut self, signal: u8)
-        ensures raised { stamp_set self.new.stamps self.new.current ≡ slice_set (stamp_set self.old.stamps self.old.current) signal true }
+        ensures raised { stamp_set self.new.stamps self.new.current
+            ≡ slice_set (stamp_set self.old.stamps self.old.current) signal true }
         ensures row { self.new.stamps ≡ slice_set self.old.stamps signal self.old.current }
         ensures stamp { self.new.current ≡ self.old.current }
     {
@@ -69,7 +71,8 @@ impl Board for StampBoard {
     }
 
     fn lower(&mut self, signal: u8)
-        ensures lowered { stamp_set self.new.stamps self.new.current ≡ slice_set (stamp_set self.old.stamps self.old.current) signal false }
+        ensures lowered { stamp_set self.new.stamps self.new.current
+            ≡ slice_set (stamp_set self.old.stamps self.old.current) signal false }
         ensures row { self.new.stamps ≡ slice_set self.old.stamps signal 0 }
         ensures stamp { self.new.current ≡ self.old.current }
     {

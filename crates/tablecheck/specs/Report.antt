@@ -39,7 +39,12 @@ census_text c =
     ++ (codes ", statements " ++ decimal c.statements))))))
 
 abbrev pub census : List SignalKind → List Kind → Census
-census gs ks = record { inputs = how_many Input gs; outputs = how_many Output gs; locals = how_many Local gs; statements = length ks }
+census gs ks = record {
+  inputs = how_many Input gs;
+  outputs = how_many Output gs;
+  locals = how_many Local gs;
+  statements = length ks;
+}
 
 abbrev pub routine_report : List SignalKind → List Kind → List ℕ
 routine_report gs ks = (census_text (census gs ks) ++ line_end) ++ outline ks 0 (tree_at ks 0)

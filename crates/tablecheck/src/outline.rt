@@ -25,8 +25,8 @@ impl fmt::Display for Line {
     }
 }
 
-// The lines of a statement and of all that lies inside it: a function, since a `Display` that prints its parts
-// through itself is proved only for a type that contains itself.
+// The lines of a statement and of all that lies inside it: a function, since a `Display` that
+// prints its parts through itself is proved only for a type that contains itself.
 pub(crate) fn write_outline(
     out: &mut String,
     routine: &Routine,
@@ -34,7 +34,9 @@ pub(crate) fn write_outline(
     depth: u8,
 ) -> Result<(), AllocError>
     requires { depth ≤ number }
-    ensures { let ks = table_kinds routine.now.table in OnOk result (string_bytes out.new ≡ string_bytes out.old ++ outline ks depth (tree_at ks number)) }
+    ensures { let ks = table_kinds routine.now.table in
+        OnOk result (string_bytes out.new
+        ≡ string_bytes out.old ++ outline ks depth (tree_at ks number)) }
 {
     let kind = routine.table.kind(usize::from(number));
     let line = Line {

@@ -21,7 +21,8 @@ struct Census {
 
 impl Census {
     fn of(routine: &Routine) -> Self
-        ensures { result ≡ census (table_signals routine.now.table) (table_kinds routine.now.table) }
+        ensures { result ≡ census (table_signals routine.now.table)
+            (table_kinds routine.now.table) }
     {
         Census {
             inputs: routine.signals(SignalKind::Input),

@@ -1,5 +1,6 @@
 -- what is claimed of the worked routines holds, by computation
-use Rattle.std.proofs.Common.{◌≡◌, ℕ, Bool, true, false, not, List, [], ◌∷◌, length, map, None, Option, nat_le, refl, ap, arith}
+use Rattle.std.proofs.Common.{◌≡◌, ℕ, Bool, true, false, not, List, [], ◌∷◌, length, map, None}
+use Rattle.std.proofs.Common.{Option, nat_le, refl, ap, arith}
 use native.Mathlib.Decide.{ℕ_discrete}
 use Rattle.signals.specs.Sets.{word_set, empty}
 use Rattle.routine.specs.declared.refusals.Refusal.{Refusal}
@@ -61,10 +62,13 @@ fit true e = refl
 fit false e = absurd (grind arith)
 
 -- no statement is found that does not fit
-formed : (x : Example) → lowest (misfits x) (length x.kinds) ≡ None → Formed (length x.signals) x.kinds
-formed x e = λ i l. fit (fits (length x.signals) (length x.kinds) i (kind_at x.kinds i)) (none_below (misfits x) (length x.kinds) e i l)
+formed : (x : Example) → lowest (misfits x) (length x.kinds) ≡ None
+    → Formed (length x.signals) x.kinds
+formed x e = λ i l. fit (fits (length x.signals) (length x.kinds) i (kind_at x.kinds i))
+    (none_below (misfits x) (length x.kinds) e i l)
 
-none_each : (f : ℕ → Option ℕ) (ws : List ℕ) → map f ws ≡ map (λ w. None) ws → Each (λ w. f w ≡ None) ws
+none_each : (f : ℕ → Option ℕ) (ws : List ℕ) → map f ws ≡ map (λ w. None) ws
+    → Each (λ w. f w ≡ None) ws
 none_each f [] e = tt
 none_each f (w ∷ ws) e = (grind (arith, e), none_each f ws (grind (arith, e)))
 
@@ -78,7 +82,8 @@ holds x e =
       few_statements = (grind (arith, n), grind (arith, m));
       formed = formed x (ap (λ (c : Computed). c.misfit) e);
       checked = ap (λ (c : Computed). c.refusal) e;
-      inputs = none_each (first_not_input x.signals) (firsts x.words) (ap (λ (c : Computed). c.not_inputs) e);
+      inputs = none_each (first_not_input x.signals) (firsts x.words)
+          (ap (λ (c : Computed). c.not_inputs) e);
       words = ap (λ (c : Computed). c.words) e;
       calls = ap (λ (c : Computed). c.calls) e;
     }

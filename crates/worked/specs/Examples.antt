@@ -54,7 +54,9 @@ pub record Holds (x : Example) : Type 0 where
 -- the model's outcomes, a line for each instant
 abbrev pub lines_from : ℕ → ℕ → List Outcome → List Summary
 lines_from k i [] = []
-lines_from k i (o ∷ os) = record { routine = k; instant = i; outputs = o.outputs; status = o.status; steps = o.steps } ∷ lines_from k (i + 1) os
+lines_from k i (o ∷ os) =
+    record { routine = k; instant = i; outputs = o.outputs; status = o.status; steps = o.steps }
+    ∷ lines_from k (i + 1) os
 
 abbrev pub lines : List Example → List Summary
 lines [] = []

@@ -5,4 +5,5 @@ use Rattle.worked.specs.declared.worked.Summary.{Summary}
 
 -- the number of the routine, and then the instant
 abbrev pub summary_text : Summary → List ℕ
-summary_text s = decimal s.routine ++ (codes " " ++ instant_text s.instant s.outputs s.status s.steps)
+summary_text s = decimal s.routine
+    ++ (codes " " ++ instant_text s.instant s.outputs s.status s.steps)

@@ -1,7 +1,8 @@
 -- the worked routines of docs/LANGUAGE.md, and what is claimed of each
 use Rattle.std.specs.Prelude.{List, [], ◌∷◌, Some, None}
 use Rattle.routine.specs.declared.kinds.SignalKind.TheVariants.{Input, Output, Local as Own}
-use Rattle.routine.specs.declared.kinds.Kind.TheVariants.{Nothing, Stop, Emit, Wait, Sequence, Parallel, Loop, When, Kill, Local}
+use Rattle.routine.specs.declared.kinds.Kind.TheVariants.{Nothing, Stop, Emit, Wait, Sequence}
+use Rattle.routine.specs.declared.kinds.Kind.TheVariants.{Parallel, Loop, When, Kill, Local}
 use Rattle.routine.specs.declared.refusals.Refusal.TheVariants.{EndlessLoop, AlreadyOver, NotReady}
 use Rattle.rules.specs.declared.status.Status.TheVariants.{Suspended as S, Terminated as T}
 use Rattle.rules.specs.Rules.{UnderWay, Done}
@@ -37,13 +38,15 @@ just_stop =
       calls = [];
     }
 
--- 3: parallel(parallel(when A(emit B, nothing), emit A), sequence(wait B, emit C)), outputs A, B, C = 0, 1, 2
+-- 3: parallel(parallel(when A(emit B, nothing), emit A), sequence(wait B, emit C)), outputs A, B, C
+-- = 0, 1, 2
 abbrev pub relayed : Example
 relayed =
     record {
       number = 3;
       signals = Output ∷ Output ∷ Output ∷ [];
-      kinds = Parallel 1 6 ∷ Parallel 2 5 ∷ When 0 3 4 ∷ Emit 1 ∷ Nothing ∷ Emit 0 ∷ Sequence 7 8 ∷ Wait 1 ∷ Emit 2 ∷ [];
+      kinds = Parallel 1 6 ∷ Parallel 2 5 ∷ When 0 3 4 ∷ Emit 1 ∷ Nothing ∷ Emit 0 ∷ Sequence 7 8
+          ∷ Wait 1 ∷ Emit 2 ∷ [];
       refusal = None;
       words = (0, (7, T, 6)) ∷ [];
       calls = [];
@@ -85,13 +88,15 @@ over_already =
       calls = [];
     }
 
--- 7: loop(local L(sequence(when L(emit O, nothing), sequence(stop, emit L)))), local L = 0, output O = 1
+-- 7: loop(local L(sequence(when L(emit O, nothing), sequence(stop, emit L)))), local L = 0, output
+-- O = 1
 abbrev pub new_life : Example
 new_life =
     record {
       number = 7;
       signals = Own ∷ Output ∷ [];
-      kinds = Loop 1 ∷ Local 0 2 ∷ Sequence 3 6 ∷ When 0 4 5 ∷ Emit 1 ∷ Nothing ∷ Sequence 7 8 ∷ Stop ∷ Emit 0 ∷ [];
+      kinds = Loop 1 ∷ Local 0 2 ∷ Sequence 3 6 ∷ When 0 4 5 ∷ Emit 1 ∷ Nothing ∷ Sequence 7 8
+          ∷ Stop ∷ Emit 0 ∷ [];
       refusal = None;
       words = (0, (0, S, 2)) ∷ (0, (0, S, 2)) ∷ (0, (0, S, 7)) ∷ (0, (0, S, 2)) ∷ [];
       calls = [];
@@ -111,7 +116,11 @@ side_by_side =
           ∷ (step 2, refuses (NotReady 2))
           ∷ (step 1, steps 1)
           ∷ (step 2, steps 2)
-          ∷ (close, closes (record { instant = 1; outputs = 1; status = T; steps = 2 }) (UnderWay ∷ Done ∷ Done ∷ []))
+          ∷ (
+            close,
+            closes (record { instant = 1; outputs = 1; status = T; steps = 2 })
+                (UnderWay ∷ Done ∷ Done ∷ []),
+          )
           ∷ [];
     }
 
@@ -141,4 +150,5 @@ takes_time =
 
 abbrev pub examples : List Example
 examples =
-    nothing_at_all ∷ just_stop ∷ relayed ∷ too_late ∷ killed ∷ over_already ∷ new_life ∷ side_by_side ∷ endless ∷ takes_time ∷ []
+    nothing_at_all ∷ just_stop ∷ relayed ∷ too_late ∷ killed ∷ over_already ∷ new_life
+    ∷ side_by_side ∷ endless ∷ takes_time ∷ []

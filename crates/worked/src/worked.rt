@@ -32,7 +32,8 @@ impl fmt::Display for Summary {
     }
 }
 
-// What the plain model makes of the words of the worked routines, instant by instant; and all that is claimed of them holds.
+// What the plain model makes of the words of the worked routines, instant by instant; and all that
+// is claimed of them holds.
 pub fn worked_routines() -> [Summary; 15]
     ensures lines { result ≡ lines examples }
     ensures claims { Each Holds examples }

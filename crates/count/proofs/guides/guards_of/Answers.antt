@@ -15,10 +15,13 @@ loop-i-preserved c =
     let few : length ks ≤ 256 = omega (arith, n.value, n.rows, r.table.most) in
     let T = table (table_signals r.table) ks (of_routine r) in
     subst (λ (vs : List ℕ). Guarded ks vs (c.loop-i.i + 1))
-    (sym (c.guard_parts.ensures ∙ ap (λ (k : Kind). with_guards c.loop-i.guards c.loop-i.i (shape k)) c.kind.ensures.value))
-    (guarded_more ks T.shaped T.once few c.loop-i.guards c.loop-i.i (omega (arith, n.value)) c.loop-i.invariant)
+    (sym (c.guard_parts.ensures
+    ∙ ap (λ (k : Kind). with_guards c.loop-i.guards c.loop-i.i (shape k)) c.kind.ensures.value))
+    (guarded_more ks T.shaped T.once few c.loop-i.guards c.loop-i.i
+    (omega (arith, n.value)) c.loop-i.invariant)
 
 pub returns : goal.returns
 returns c =
     let n = c.count-i-end.ensures in
-    guarded_all (table_kinds c.args.routine.now.table) c.loop-i.guards c.loop-i.i (omega (arith, n.value)) c.loop-i.invariant
+    guarded_all (table_kinds c.args.routine.now.table) c.loop-i.guards c.loop-i.i
+    (omega (arith, n.value)) c.loop-i.invariant

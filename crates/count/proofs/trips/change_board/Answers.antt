@@ -11,8 +11,10 @@ pub returns-clause-accepted : goal.returns-clause-accepted
 returns-clause-accepted g c =
     let d = c.args.count in
     let present = g.A.Board.present in
-    is_accepted (signals_of d) (kinds_of d) (state_of present d) _ (few_kinds d.rows.routine.table) (few_signals d.rows)
-    (sound_count g.met.A.Board.size d (search rules) (search rules)) c.hand_over-routine.ensures.record
+    is_accepted (signals_of d) (kinds_of d) (state_of present d) _ (few_kinds d.rows.routine.table)
+    (few_signals d.rows)
+    (sound_count g.met.A.Board.size d (search rules)
+    (search rules)) c.hand_over-routine.ensures.record
 
 pub returns-clause-state : goal.returns-clause-state
 returns-clause-state g c =
@@ -20,5 +22,8 @@ returns-clause-state g c =
     let present = g.A.Board.present in
     let n = c.new-count.ensures in
     let h = c.hand_over-routine.ensures in
-    comes_back (signals_of d) _ (kinds_of d) _ (state_of present d) _ _ _ (few_kinds d.rows.routine.table) (few_signals d.rows)
-    (sound_count g.met.A.Board.size d (search rules) (search rules)) h.record (n.signals ∙ ap (λ (r : Routine). table_signals r.table) h.routine) (n.kinds ∙ ap (λ (r : Routine). table_kinds r.table) h.routine) c.take_over.ensures.leaves
+    comes_back (signals_of d) _ (kinds_of d) _ (state_of present d) _ _ _
+    (few_kinds d.rows.routine.table) (few_signals d.rows)
+    (sound_count g.met.A.Board.size d (search rules) (search rules)) h.record
+    (n.signals ∙ ap (λ (r : Routine). table_signals r.table) h.routine)
+    (n.kinds ∙ ap (λ (r : Routine). table_kinds r.table) h.routine) c.take_over.ensures.leaves

@@ -9,7 +9,8 @@ returns-clause-answers g c =
     let t = c.args.count.rows in
     let a = c.take_over-taken.ensures in
     c.and.ensures
-    ∙ sent_on _ _ _ _ _ _ c.args.record.now _ (few_kinds t.routine.table) (few_signals t) (λ i. (c.type_inv.record i).fits) a.signals a.kinds
+    ∙ sent_on _ _ _ _ _ _ c.args.record.now _ (few_kinds t.routine.table) (few_signals t)
+    (λ i. (c.type_inv.record i).fits) a.signals a.kinds
     c.hand_over-left.ensures.record c.take_over-taken.result a.says a.leaves
 
 pub returns-clause-law : goal.returns-clause-law

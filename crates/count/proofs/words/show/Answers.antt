@@ -1,4 +1,5 @@
-use Rattle.std.proofs.Common.{◌<◌, ◌+◌, List, Bool, false, sym, ap, ◌∙◌, subst, get_or, ext_get_or, arith}
+use Rattle.std.proofs.Common.{◌<◌, ◌+◌, List, Bool, false, sym, ap, ◌∙◌, subst, get_or, ext_get_or}
+use Rattle.std.proofs.Common.{arith}
 use Rattle.signals.specs.Sizes.{length-word_set}
 use Rattle.signals.proofs.Sets.{get_or-empty}
 use Rattle.signals.proofs.WordSets.{get_or-word_set}
@@ -9,7 +10,10 @@ use Rattle.count.proofs.words.show.Goals as goal
 use Rattle.count.proofs.words.show.Goals.{then-has_bit, else-has_bit}
 
 pub loop-s-init : goal.loop-s-init
-loop-s-init g c = record { done = λ k l. absurd (omega arith); ahead = λ k l. ap (λ (p : List Bool). get_or p k false) c.wipe.ensures ∙ get_or-empty k }
+loop-s-init g c = record {
+  done = λ k l. absurd (omega arith);
+  ahead = λ k l. ap (λ (p : List Bool). get_or p k false) c.wipe.ensures ∙ get_or-empty k;
+}
 
 pub loop-s-preserved : goal.loop-s-preserved
 loop-s-preserved g c =
@@ -18,8 +22,11 @@ loop-s-preserved g c =
     let f = bit c.args.word in
     elim c.if-has_bit.branch [
       | then-has_bit w ↦
-          subst (Shown f (s.s + 1)) (sym (ap P w.board-is ∙ w.raise.ensures)) (shown_set f s.s (P s.board) (g.met.B.Board.size s.board) (omega arith) (sym w.if-has_bit.ensures) s.invariant)
-      | else-has_bit w ↦ subst (Shown f (s.s + 1)) (sym (ap P w.board-is)) (shown_keep f s.s (P s.board) (sym w.if-has_bit.ensures) s.invariant)
+          subst (Shown f (s.s + 1)) (sym (ap P w.board-is ∙ w.raise.ensures))
+          (shown_set f s.s (P s.board) (g.met.B.Board.size s.board) (omega arith)
+          (sym w.if-has_bit.ensures) s.invariant)
+      | else-has_bit w ↦ subst (Shown f (s.s + 1)) (sym (ap P w.board-is))
+          (shown_keep f s.s (P s.board) (sym w.if-has_bit.ensures) s.invariant)
     ]
 
 pub returns : goal.returns
@@ -31,5 +38,6 @@ returns g c =
     ext_get_or false _ _ (e ∙ sym (length-word_set w)) (λ k l. let m : k < 64 = omega arith in
     elim (dec_lt k c.loop-s.s) [
       | yes u ↦ i.done k u
-      | no d ↦ i.ahead k (omega arith) ∙ sym (no_bit w c.width-s-end.result k n.within (omega arith))
+      | no d ↦ i.ahead k (omega arith)
+          ∙ sym (no_bit w c.width-s-end.result k n.within (omega arith))
     ] ∙ sym (get_or-word_set w k m))

@@ -6,5 +6,7 @@ use Rattle.count.proofs.words.snapshot.Goals as goal
 pub returns : goal.returns
 returns g c =
     let b = g.B.Board.present c.args.board.now in
-    made _ _ (λ (i : ℕ). get_or b i false) (λ i y q e. search rules) _ false 64 c.from_fn.ensures.items
-    ∙ sym (fill_by_all (λ (i : ℕ). get_or b i false) b 64 false (g.met.B.Board.size c.args.board.now) (λ k l. refl))
+    made _ _ (λ (i : ℕ). get_or b i false)
+    (λ i y q e. search rules) _ false 64 c.from_fn.ensures.items
+    ∙ sym (fill_by_all (λ (i : ℕ). get_or b i false) b 64 false
+    (g.met.B.Board.size c.args.board.now) (λ k l. refl))

@@ -1,4 +1,5 @@
-use Rattle.std.proofs.Common.{◌≡◌, ℕ, ◌-◌, ◌*◌, ◌%◌, ◌^◌, cond, rules, arith, bit_or, get_or, sym, ap, ◌∙◌}
+use Rattle.std.proofs.Common.{◌≡◌, ℕ, ◌-◌, ◌*◌, ◌%◌, ◌^◌, cond, rules, arith, bit_or, get_or, sym}
+use Rattle.std.proofs.Common.{ap, ◌∙◌}
 use Rattle.std.proofs.lemmas.Option.{same_Some}
 use Rattle.std.proofs.iter.runs.Sources.{range_runs_back}
 use Rattle.count.proofs.OutputWords.{word_made}
@@ -16,4 +17,6 @@ returns g c P says =
     let long : r.0.len ≡ n = omega (arith, d.1 (r.2.1 ∙ f.2), top, low) in
     f.3 (λ (w i : ℕ). bit_or (w * 2 % 2 ^ 64) (cond (P i) 1 0)) (λ x y q h k. search (rules, says))
     ∙ word_made P n f.0.items c.requires.few (omega (arith, f.0.long, r.2.0.0, long))
-    (λ k l. ap (λ xs. get_or xs k 0) (sym r.2.0.1) ∙ same_Some _ _ (sym (r.0.reads k 0 (omega arith)) ∙ d.3 k (omega arith)) ∙ ap (λ m. m - 1 - k) top)
+    (λ k l. ap (λ xs. get_or xs k 0) (sym r.2.0.1)
+    ∙ same_Some _ _ (sym (r.0.reads k 0 (omega arith)) ∙ d.3 k (omega arith))
+    ∙ ap (λ m. m - 1 - k) top)

@@ -8,14 +8,16 @@ abbrev first : goal.returns-clause-first
 first g c =
     let t = c.args.routine.table in
     let e = c.in_ok-first.ensures in
-    told_is (table_signals t) (table_kinds t) g.A.Board.present g.B.Board.present (map asked c.args.plan.before.now) (map asked c.args.plan.later.now) _ _ _ _ _
+    told_is (table_signals t) (table_kinds t) g.A.Board.present g.B.Board.present
+    (map asked c.args.plan.before.now) (map asked c.args.plan.later.now) _ _ _ _ _
     c.relay_twice-relayed.ensures.one e.one e.other c.new-k.ensures c.new-l.ensures _ c.count-statements.ensures.value c.in_ok-first.first e.tells
 
 abbrev second : goal.returns-clause-second
 second g c =
     let t = c.args.routine.table in
     let e = c.in_ok-second.ensures in
-    told_is (table_signals t) (table_kinds t) g.C.Board.present g.D.Board.present (map asked c.args.again.before.now) (map asked c.args.again.later.now) _ _ _ _ _
+    told_is (table_signals t) (table_kinds t) g.C.Board.present g.D.Board.present
+    (map asked c.args.again.before.now) (map asked c.args.again.later.now) _ _ _ _ _
     c.relay_twice-relayed.ensures.other e.one e.other c.new-m.ensures c.new-n.ensures _ c.count-statements.ensures.value c.in_ok-second.second e.tells
 
 pub returns-clause-first : goal.returns-clause-first
@@ -36,6 +38,8 @@ returns-clause-same g c =
     let f = c.in_ok-second.ensures in
     λ s. (first g c).instants
     ∙ same_instants_told (table_signals t) (table_kinds t) cs ds es fs _ _ _ _ _ _ _ _ r.law
-    (told_of (table_signals t) (table_kinds t) g.A.Board.present g.B.Board.present cs ds _ _ _ _ _ r.one e.one e.other s.untaken)
-    (told_of (table_signals t) (table_kinds t) g.C.Board.present g.D.Board.present es fs _ _ _ _ _ r.other f.one f.other s.untaken_again) s
+    (told_of (table_signals t)
+    (table_kinds t) g.A.Board.present g.B.Board.present cs ds _ _ _ _ _ r.one e.one e.other s.untaken)
+    (told_of (table_signals t)
+    (table_kinds t) g.C.Board.present g.D.Board.present es fs _ _ _ _ _ r.other f.one f.other s.untaken_again) s
     ∙ sym (second g c).instants

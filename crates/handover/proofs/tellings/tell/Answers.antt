@@ -6,5 +6,6 @@ use Rattle.handover.proofs.tellings.tell.Goals as goal
 pub returns : goal.returns
 returns c =
     let s = c.new-telling.ensures in
-    tells_relay c.args.statements c.new-telling.result c.write_all.new.self _ c.write_all-2.new.self (map tells c.args.before.now) (map tells c.args.later.now) c.args.handed.now
+    tells_relay c.args.statements c.new-telling.result c.write_all.new.self _ c.write_all-2.new.self
+    (map tells c.args.before.now) (map tells c.args.later.now) c.args.handed.now
     s.text s.instants s.stepped c.in_ok-write_all.ensures c.in_ok-write_handed.ensures refl refl c.in_ok-write_all-2.ensures

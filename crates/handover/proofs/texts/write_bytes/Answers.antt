@@ -6,7 +6,8 @@ pub loop-byte-init : goal.loop-byte-init
 loop-byte-init c = writes_none byte_text _ _
 
 pub loop-byte-preserved : goal.loop-byte-preserved
-loop-byte-preserved c = writes_more byte_text _ _ _ _ _ _ c.loop-byte-test.true c.loop-byte.invariant c.in_ok-write_byte.ensures
+loop-byte-preserved c =
+    writes_more byte_text _ _ _ _ _ _ c.loop-byte-test.true c.loop-byte.invariant c.in_ok-write_byte.ensures
 
 pub returns : goal.returns
 returns c = writes_all byte_text _ _ _ _ c.loop-byte-test.false c.loop-byte.invariant

@@ -4,4 +4,5 @@ use Rattle.handover.proofs.Each.{Writes}
 use Rattle.handover.proofs.texts.write_numbers.Given as goal
 
 abbrev pub invariant-loop-number : goal.invariant-loop-number
-invariant-loop-number l = Writes number_text l.numbers l.number-index (string_bytes l.initial.out) (string_bytes l.out)
+invariant-loop-number l =
+    Writes number_text l.numbers l.number-index (string_bytes l.initial.out) (string_bytes l.out)

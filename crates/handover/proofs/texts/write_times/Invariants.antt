@@ -6,4 +6,6 @@ use Rattle.handover.specs.Texts.{numbers_text}
 use Rattle.handover.proofs.texts.write_times.Given as goal
 
 abbrev pub invariant-loop-statement : goal.invariant-loop-statement
-invariant-loop-statement l = string_bytes l.out ≡ string_bytes l.initial.out ++ numbers_text (each_below (λ i. occurrences ℕ_discrete i l.stepped) l.statement)
+invariant-loop-statement l =
+    string_bytes l.out ≡ string_bytes l.initial.out
+    ++ numbers_text (each_below (λ i. occurrences ℕ_discrete i l.stepped) l.statement)

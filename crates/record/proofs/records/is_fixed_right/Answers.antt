@@ -9,4 +9,5 @@ pub returns : goal.returns
 unfolding is_fixed_right
 returns c =
     let P = is_wrong (length (table_kinds c.args.routine.now.table)) c.args.bytes.now in
-    ap not (any_by P 279 279 refl refl c.any.ensures.ran (λ x q k. search (rules, tests)) (λ x q k. search (rules, tests)))
+    ap not (any_by P 279 279 refl refl c.any.ensures.ran (λ x q k. search (rules, tests))
+    (λ x q k. search (rules, tests)))

@@ -6,4 +6,5 @@ use Rattle.record.proofs.records.marks.Goals as goal
 
 pub returns : goal.returns
 unfolding marks_read
-returns c = made _ _ (λ (i : ℕ). mark_in (slice_index c.args.bytes.now (23 + i))) (λ i y q e. search rules) _ (Some Idle) 256 c.from_fn.ensures.items
+returns c = made _ _ (λ (i : ℕ). mark_in (slice_index c.args.bytes.now (23 + i)))
+    (λ i y q e. search rules) _ (Some Idle) 256 c.from_fn.ensures.items

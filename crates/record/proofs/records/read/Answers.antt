@@ -5,4 +5,6 @@ use Rattle.record.proofs.records.read.Goals as goal
 
 pub returns-in-None : goal.returns-in-None
 returns-in-None c =
-    let t = c.args.routine.now.table in taken_by (table_signals t) (table_kinds t) c.args.bytes.now false _ _ (misfit _ _ c.in-None.ensures.cases) refl refl
+    let t = c.args.routine.now.table in
+    taken_by (table_signals t) (table_kinds t) c.args.bytes.now false _ _
+    (misfit _ _ c.in-None.ensures.cases) refl refl

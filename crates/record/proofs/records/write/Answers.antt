@@ -15,7 +15,8 @@ returns-clause-bytes c =
     let t = c.args.standing.routine.now.table in
     let ms = marks (vec_items t.statements) in
     let n = length (table_kinds t) in
-    made _ _ (byte_at (contents n) (head_bytes h) ms) (λ i y q e. search rules) _ 0 279 c.from_fn.ensures.items
+    made _ _ (byte_at (contents n) (head_bytes h) ms)
+    (λ i y q e. search rules) _ 0 279 c.from_fn.ensures.items
     ∙ sym (bytes_written n h ms (marks_many t) (few_kinds t))
 
 pub returns-clause-accepted : goal.returns-clause-accepted
@@ -24,5 +25,6 @@ returns-clause-accepted c =
     let t = s.routine.now.table in
     let w : s.head.present < 18446744073709551616 = search rules in
     ap (taking_refusal (table_signals t) (table_kinds t)) (returns-clause-bytes c)
-    ∙ is_taken (table_signals t) (table_kinds t) s.head (marks (vec_items t.statements)) (few_kinds t) (search rules) (search rules) (omega (arith, w))
+    ∙ is_taken (table_signals t) (table_kinds t) s.head (marks (vec_items t.statements))
+    (few_kinds t) (search rules) (search rules) (omega (arith, w))
     s.faultless (record { many = marks_many t; each = s.legal }) s.finished

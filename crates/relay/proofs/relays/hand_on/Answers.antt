@@ -36,7 +36,8 @@ returns g c =
         later = later_told gs ks k m s S _ h.record ds B b d e f _ _ t;
         left = left_record gs ks k m s S _ h.record ds B b d e f _ _ t _ l.record;
         first_board = ap A h.board;
-        second_board = ap B l.board ∙ ap (λ (x : State). x.present) (left_at gs ks k m s S _ h.record ds B b d e f _ _ t);
+        second_board = ap B l.board
+            ∙ ap (λ (x : State). x.present) (left_at gs ks k m s S _ h.record ds B b d e f _ _ t);
       };
       routine = left_routine gs ks k m s S _ h.record ds B b d e f _ _ t _ l.routine;
     }

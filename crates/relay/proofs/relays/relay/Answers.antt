@@ -20,10 +20,12 @@ returns g c =
     let n = c.new-count.ensures in
     let r = c.carry_out_all.ensures in
     let p =
-    relayed A B (table_signals t) (signals_of a) (signals_of d) (table_kinds t) (kinds_of a) (kinds_of d) cs ds (state_of A a) (state_of A d) _ _ _ _
+    relayed A B (table_signals t) (signals_of a) (signals_of d) (table_kinds t) (kinds_of a)
+    (kinds_of d) cs ds (state_of A a) (state_of A d) _ _ _ _
     n.signals n.kinds n.state r.routine.signals r.routine.kinds r.tells r.leaves _ _ c.hand_on.ensures.tells c.hand_on.ensures.routine in
     record {
       tells = p.0;
       routine = p.1;
-      model = told_as_model (table_signals t) (table_kinds t) (of_routine c.args.routine) (few_kinds t) A B cs ds _ _ _ _ _ p.0;
+      model = told_as_model (table_signals t) (table_kinds t) (of_routine c.args.routine)
+          (few_kinds t) A B cs ds _ _ _ _ _ p.0;
     }

@@ -8,4 +8,5 @@ returns-clause-law g c =
     let t = c.args.routine.table in
     let r = c.relay-relayed.ensures.routine in
     told_alike (table_signals t) (table_kinds t) _ _ _ _ _ _ _ _ c.relay-relayed.ensures.model
-    (same_model (table_signals t) _ (table_kinds t) _ _ _ _ _ r.signals r.kinds c.relay-once_more.ensures.model)
+    (same_model (table_signals t) _
+    (table_kinds t) _ _ _ _ _ r.signals r.kinds c.relay-once_more.ensures.model)

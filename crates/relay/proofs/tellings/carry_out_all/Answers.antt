@@ -10,12 +10,18 @@ loop-call-preserved g c =
     let s = c.args.count.now in
     let calls = c.args.calls.now in
     let ear = g.L.Listener.ear in
-    telling_next g.B.Board.present s c.loop-call.count c.carry_out.new.count (map asked calls) calls c.loop-call.call-index _ (ear c.args.listener.now) (ear c.loop-call.listener) (ear c.carry_out.new.listener)
+    telling_next g.B.Board.present s c.loop-call.count c.carry_out.new.count
+    (map asked calls) calls c.loop-call.call-index _ (ear c.args.listener.now)
+    (ear c.loop-call.listener) (ear c.carry_out.new.listener)
     c.loop-call-test.true c.loop-call.invariant c.carry_out.ensures
 
 pub returns : goal.returns
 returns g c =
     let s = c.args.count.now in
     let ear = g.L.Listener.ear in
-    telling_all g.B.Board.present s c.loop-call.count (map asked c.args.calls.now) (ear c.args.listener.now) (ear c.loop-call.listener)
-    (subst (λ (xs : List Call). Telling g.B.Board.present s c.loop-call.count (map asked c.args.calls.now) (map asked xs) (ear c.args.listener.now) (ear c.loop-call.listener)) (at_drop_all (λ xs. xs) c.args.calls.now c.loop-call.call-index c.loop-call-test.false) c.loop-call.invariant)
+    telling_all g.B.Board.present s c.loop-call.count (map asked c.args.calls.now)
+    (ear c.args.listener.now) (ear c.loop-call.listener)
+    (subst (λ (xs : List Call).
+    Telling g.B.Board.present s c.loop-call.count (map asked c.args.calls.now) (map asked xs)
+    (ear c.args.listener.now) (ear c.loop-call.listener))
+    (at_drop_all (λ xs. xs) c.args.calls.now c.loop-call.call-index c.loop-call-test.false) c.loop-call.invariant)

@@ -13,8 +13,11 @@ returns-in-Ok g c =
     let e = c.in-Ok.ensures in
     let r = e.reacts in
     record {
-      tells = react_told (signals_of s) (kinds_of s) a c.args.word c.in-Ok.closing _ _ (state_of g.B.Board.present c.react_traced.new.self) _ _ r.says r.leaves c.rows.ensures.marks
-          (c.steps.ensures ∙ all_heard (kinds_of s) (few_kinds s.rows.routine.table) (begin_state a c.args.word) _ (row_trace c.react_traced.new.tracer) c.new-row.ensures e.told) c.hear.ensures;
+      tells = react_told (signals_of s) (kinds_of s) a c.args.word c.in-Ok.closing _ _
+          (state_of g.B.Board.present c.react_traced.new.self) _ _ r.says r.leaves c.rows.ensures.marks
+          (c.steps.ensures ∙ all_heard (kinds_of s) (few_kinds s.rows.routine.table)
+          (begin_state a c.args.word) _
+          (row_trace c.react_traced.new.tracer) c.new-row.ensures e.told) c.hear.ensures;
       leaves = r.leaves;
       routine = record { kinds = r.kinds; signals = r.signals };
     }

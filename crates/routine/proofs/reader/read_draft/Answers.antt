@@ -8,7 +8,8 @@ returns-in_err-statements c =
     let bytes = c.args.bytes.now in
     let h = c.in_ok-header.ensures in
     let r = err_from_is_err_and c.from_residual-in_err-statements.result c.from_residual-in_err-statements.ensures.1 in
-    rw (r.1, r.2) (bad_record bytes _ _ _ _ h.0 h.1 h.2 c.split_at.ensures.front c.split_at.ensures.back _ c.in_ok-signals.ensures _ c.in_err-statements.ensures)
+    rw (r.1, r.2)
+    (bad_record bytes _ _ _ _ h.0 h.1 h.2 c.split_at.ensures.front c.split_at.ensures.back _ c.in_ok-signals.ensures _ c.in_err-statements.ensures)
 
 pub invariant_of-result : goal.invariant_of-result
 invariant_of-result c =

@@ -6,7 +6,9 @@ use Rattle.routine.proofs.reader.read_statements.Given as goal
 
 abbrev pub invariant-loop-left : goal.invariant-loop-left
 invariant-loop-left l =
-    (after l.made.items (records_from l.header.signals l.header.statements (array_vec_len l.made) l.left) ≡ records_from l.header.signals l.header.statements 0 l.bytes)
+    (after l.made.items (records_from l.header.signals l.header.statements
+    (array_vec_len l.made) l.left)
+    ≡ records_from l.header.signals l.header.statements 0 l.bytes)
     × (4 * array_vec_len l.made + length l.left ≤ 1024)
 
 abbrev pub decreases-loop-left : goal.decreases-loop-left

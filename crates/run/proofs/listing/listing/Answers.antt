@@ -6,10 +6,12 @@ use Rattle.run.proofs.listing.listing.Goals as goal
 pub returns-in-Err-Memory : goal.returns-in-Err-Memory
 returns-in-Err-Memory c =
     let table = c.cut.result.0.now in
-    let p = something_said (load_of table) routine_content _ c.in-Err-Memory.field-0-is (load_numbered table) c.in-Err-Memory.ensures in
+    let p = something_said (load_of table) routine_content _ c.in-Err-Memory.field-0-is
+    (load_numbered table) c.in-Err-Memory.ensures in
     rw (← c.cut.ensures.table, p.1) tt
 
 pub returns-in-Err : goal.returns-in-Err
 returns-in-Err c =
-    let e = refusal_said (load_of c.cut.result.0.now) routine_content c.in-Err.refusal (search rules) c.in-Err.ensures in
+    let e = refusal_said (load_of c.cut.result.0.now) routine_content c.in-Err.refusal
+    (search rules) c.in-Err.ensures in
     rw (← c.cut.ensures.table, e) refl

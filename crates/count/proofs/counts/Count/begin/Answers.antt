@@ -7,4 +7,5 @@ use Rattle.count.proofs.counts.Count.begin.Goals as goal
 pub invariant_of-self-clause-within : goal.invariant_of-self-clause-within
 invariant_of-self-clause-within g c =
     let gs = signals_of c.args.self.now in
-    subst (Within (length gs)) (sym c.show.ensures) (within_word gs c.args.word c.in_ok-may_begin.ensures.inputs)
+    subst (Within (length gs)) (sym c.show.ensures)
+    (within_word gs c.args.word c.in_ok-may_begin.ensures.inputs)

@@ -1,4 +1,5 @@
-use Rattle.std.proofs.Common.{◌≡◌, ℕ, Bool, true, false, not, ◌&&◌, slice_index_or, refl, sym, ap, ◌∙◌, rules}
+use Rattle.std.proofs.Common.{◌≡◌, ℕ, Bool, true, false, not, ◌&&◌, slice_index_or, refl, sym, ap}
+use Rattle.std.proofs.Common.{◌∙◌, rules}
 use Rattle.std.proofs.lemmas.Iterator.{first_from_Range}
 use borrow.Author.Tests.{tests}
 use Rattle.count.specs.CountView.{signals_of}
@@ -18,6 +19,10 @@ returns g c =
     let n = c.width.result in
     lowest_by P
     (finds (λ s b. P s ≡ b) n n c.find.result refl
-    (first_from_Range _ _ _ c.find.result (λ (s : ℕ). P s ≡ true) (λ (s : ℕ). P s ≡ false) c.find.ensures.ran (λ x q k. search (rules, tests)) (λ x q k. search (rules, tests))))
+    (first_from_Range _ _ _ c.find.result (λ (s : ℕ). P s ≡ true)
+    (λ (s : ℕ). P s ≡ false) c.find.ensures.ran (λ x q k. search (rules, tests))
+    (λ x q k. search (rules, tests))))
     (λ s b l e. sym e)
-    ∙ sym (lowest_longer P n 64 c.width.ensures.short (λ k l. ap (λ (b : Bool). b && not (is_input (slice_index_or gs k Local))) (no_bit w n k c.width.ensures.within l)))
+    ∙ sym (lowest_longer P n 64 c.width.ensures.short
+    (λ k l. ap (λ (b : Bool). b && not (is_input (slice_index_or gs k Local)))
+    (no_bit w n k c.width.ensures.within l)))

@@ -13,8 +13,11 @@ returns-clause-by_rule g c =
     let s = c.args.self.now in
     let P = λ (i : ℕ). rule (tree_in s.rows i) (marks_in s.rows) (g.B.Board.present s.board) in
     lowest_by P
-    (finds (λ i b. P i ≡ b) c.statements.result (length (kinds_of s)) c.find.result c.statements.ensures
-    (first_from_Range _ _ _ c.find.result (λ (i : ℕ). P i ≡ true) (λ (i : ℕ). P i ≡ false) c.find.ensures.ran (λ x q k. search (rules, tests)) (λ x q k. search (rules, tests))))
+    (finds (λ i b. P i ≡ b) c.statements.result
+    (length (kinds_of s)) c.find.result c.statements.ensures
+    (first_from_Range _ _ _ c.find.result (λ (i : ℕ). P i ≡ true)
+    (λ (i : ℕ). P i ≡ false) c.find.ensures.ran (λ x q k. search (rules, tests))
+    (λ x q k. search (rules, tests))))
     (λ i b l h. sym h)
 
 pub returns-clause-ready : goal.returns-clause-ready

@@ -17,7 +17,8 @@ invariant_of-result-clause-legal g c = new_keeps _ _ _ c.idle.ensures c.begin.en
 
 pub returns-clause-state : goal.returns-clause-state
 returns-clause-state g c =
-    ap₂ start (begun_anew _ _ _ c.idle.ensures c.begin.ensures ∙ ap (λ (r : Routine). first_marks (table_kinds r.table)) c.new-rows.ensures) c.wipe.ensures
+    ap₂ start (begun_anew _ _ _ c.idle.ensures c.begin.ensures
+    ∙ ap (λ (r : Routine). first_marks (table_kinds r.table)) c.new-rows.ensures) c.wipe.ensures
 
 pub invariant_of-result-clause-within : goal.invariant_of-result-clause-within
 invariant_of-result-clause-within g c = within_empty _ _ c.wipe.ensures

@@ -12,7 +12,9 @@ pub returns-then-guard_applies : goal.returns-then-guard_applies
 returns-then-guard_applies g c =
     let s = c.args.self.now in
     let f = c.args.front in
-    guard_lowest (signals_of s) (kinds_of s) (checked s.rows) (marks_in s.rows) (g.B.Board.present s.board) f.from f.guard c.requires (sym c.guard_applies.ensures ∙ c.if-guard_applies.true)
+    guard_lowest (signals_of s) (kinds_of s) (checked s.rows) (marks_in s.rows)
+    (g.B.Board.present s.board) f.from f.guard c.requires
+    (sym c.guard_applies.ensures ∙ c.if-guard_applies.true)
 
 pub returns : goal.returns
 returns g c =
@@ -20,6 +22,10 @@ returns g c =
     let f = c.args.front in
     let e = g.B.Board.present s.board in
     let P = λ (i : ℕ). rule (tree_in s.rows i) (marks_in s.rows) e in
-    from_lowest (signals_of s) (kinds_of s) (checked s.rows) (marks_in s.rows) e f.from f.guard c.requires (sym c.guard_applies.ensures ∙ c.if-guard_applies.false)
+    from_lowest (signals_of s) (kinds_of s) (checked s.rows)
+    (marks_in s.rows) e f.from f.guard c.requires
+    (sym c.guard_applies.ensures ∙ c.if-guard_applies.false)
     c.statements.result c.statements.ensures c.find.result
-    (first_from_Range _ _ _ c.find.result (λ (i : ℕ). P i ≡ true) (λ (i : ℕ). P i ≡ false) c.find.ensures.ran (λ x q k. search (rules, tests)) (λ x q k. search (rules, tests)))
+    (first_from_Range _ _ _ c.find.result (λ (i : ℕ). P i ≡ true)
+    (λ (i : ℕ). P i ≡ false) c.find.ensures.ran (λ x q k. search (rules, tests))
+    (λ x q k. search (rules, tests)))

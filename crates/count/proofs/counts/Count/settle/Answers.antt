@@ -5,7 +5,8 @@ use Rattle.rules.specs.Rules.{ready}
 use Rattle.count.specs.View.{marks_in, tree_in}
 use Rattle.count.specs.CountView.{kinds_of, signals_of, state_of}
 use Rattle.count.proofs.Sound.{checked, many}
-use Rattle.count.proofs.Settling.{turned_none, turned_more, some_ready, settled_here, settled_at_last}
+use Rattle.count.proofs.Settling.{turned_none, turned_more, some_ready, settled_here}
+use Rattle.count.proofs.Settling.{settled_at_last}
 use Rattle.count.proofs.Front.{quiet_start, quiet_after, quiet_moved}
 use Rattle.count.proofs.counts.Count.settle.Goals as goal
 
@@ -16,14 +17,16 @@ loop-turn-init g c =
     record {
       live = c.requires.live;
       routine = record { kinds = refl; signals = refl };
-      turned = turned_none (kinds_of s) (state_of present s) (g.T.Tracer.trace c.args.tracer.now) c.requires.fresh;
+      turned = turned_none (kinds_of s) (state_of present s)
+          (g.T.Tracer.trace c.args.tracer.now) c.requires.fresh;
       quiet = quiet_start (kinds_of s) (marks_in s.rows) (present s.board) 0;
     }
 
 pub act-requires-clause-ready : goal.act-requires-clause-ready
 act-requires-clause-ready g c =
     let s = c.loop-turn.self in
-    some_ready (ready (tree_in s.rows 0) (marks_in s.rows) (g.B.Board.present s.board)) (length (kinds_of s)) {k = c.in-Some.k} c.in-Some.ensures
+    some_ready (ready (tree_in s.rows 0) (marks_in s.rows) (g.B.Board.present s.board))
+    (length (kinds_of s)) {k = c.in-Some.k} c.in-Some.ensures
 
 pub loop-turn-preserved : goal.loop-turn-preserved
 loop-turn-preserved g c =
@@ -32,27 +35,41 @@ loop-turn-preserved g c =
     let r = c.act.ensures.routine in
     record {
       live = ap (λ (u : State). is_open u.phase) c.act.ensures.leaves ∙ i.live;
-      routine = record { kinds = r.kinds ∙ i.routine.kinds; signals = r.signals ∙ i.routine.signals };
-      turned = turned_more (kinds_of c.args.self.now) i.turned (kinds_of s) c.in-Some.k (state_of g.B.Board.present c.act.new.self) _ i.routine.kinds
+      routine = record {
+        kinds = r.kinds ∙ i.routine.kinds;
+        signals = r.signals ∙ i.routine.signals;
+      };
+      turned = turned_more (kinds_of c.args.self.now) i.turned (kinds_of s) c.in-Some.k
+          (state_of g.B.Board.present c.act.new.self) _ i.routine.kinds
           (omega arith) (omega arith) c.in-Some.ensures c.act.ensures.leaves c.step.ensures;
-      quiet = quiet_moved (kinds_of s) (kinds_of c.act.new.self) _ _ _ _ _ _ _ _ r.kinds (ap (λ (u : State). u.marks) c.act.ensures.leaves) (ap (λ (u : State). u.present) c.act.ensures.leaves)
+      quiet = quiet_moved (kinds_of s) (kinds_of c.act.new.self) _ _ _ _ _ _ _ _ r.kinds
+          (ap (λ (u : State). u.marks) c.act.ensures.leaves)
+          (ap (λ (u : State). u.present) c.act.ensures.leaves)
           c.front_after-front.ensures.from c.front_after-front.ensures.guard
-          (quiet_after (signals_of s) (kinds_of s) (checked s.rows) s.rows.guards s.rows.waiters s.rows.guarded s.rows.awaited (marks_in s.rows) (g.B.Board.present s.board) _ c.loop-turn.front.from c.loop-turn.front.guard c.in-Some.k
+          (quiet_after (signals_of s) (kinds_of s)
+          (checked s.rows) s.rows.guards s.rows.waiters s.rows.guarded s.rows.awaited
+          (marks_in s.rows) (g.B.Board.present s.board) _ c.loop-turn.front.from c.loop-turn.front.guard c.in-Some.k
           (many s.rows) i.quiet c.own_signal_present.ensures c.in-Some.ensures);
     }
 
 pub returns-in_default-clause-leaves : goal.returns-in_default-clause-leaves
 returns-in_default-clause-leaves g c =
     let i = c.loop-turn.invariant in
-    (settled_here (kinds_of c.args.self.now) i.turned (kinds_of c.loop-turn.self) i.routine.kinds c.in_default.ensures).leaves
+    (settled_here (kinds_of c.args.self.now) i.turned
+    (kinds_of c.loop-turn.self) i.routine.kinds c.in_default.ensures).leaves
 
 pub returns-in_default-clause-told : goal.returns-in_default-clause-told
 returns-in_default-clause-told g c =
     let i = c.loop-turn.invariant in
-    (settled_here (kinds_of c.args.self.now) i.turned (kinds_of c.loop-turn.self) i.routine.kinds c.in_default.ensures).told
+    (settled_here (kinds_of c.args.self.now) i.turned
+    (kinds_of c.loop-turn.self) i.routine.kinds c.in_default.ensures).told
 
 pub returns-clause-leaves : goal.returns-clause-leaves
-returns-clause-leaves g c = (settled_at_last (kinds_of c.args.self.now) c.loop-turn.invariant.turned (omega (arith, c.count-most.ensures.value))).leaves
+returns-clause-leaves g c =
+    (settled_at_last (kinds_of c.args.self.now) c.loop-turn.invariant.turned
+    (omega (arith, c.count-most.ensures.value))).leaves
 
 pub returns-clause-told : goal.returns-clause-told
-returns-clause-told g c = (settled_at_last (kinds_of c.args.self.now) c.loop-turn.invariant.turned (omega (arith, c.count-most.ensures.value))).told
+returns-clause-told g c =
+    (settled_at_last (kinds_of c.args.self.now) c.loop-turn.invariant.turned
+    (omega (arith, c.count-most.ensures.value))).told

@@ -13,7 +13,9 @@ invariant_of-result g c =
     let n = length (signals_of d) in
     let e = c.head.ensures in
     record {
-      faultless = ap (λ h. fault_by h.phase n h) e ∙ no_fault d.phase n d.closed d.steps (g.B.Board.present d.board) d.room;
-      legal = λ i l. ap (λ h. keeps (is_open h.phase) (kinds_of d) (marks_in d.rows) i) e ∙ d.legal i l;
+      faultless = ap (λ h. fault_by h.phase n h) e
+          ∙ no_fault d.phase n d.closed d.steps (g.B.Board.present d.board) d.room;
+      legal = λ i l. ap (λ h. keeps (is_open h.phase) (kinds_of d) (marks_in d.rows) i) e
+          ∙ d.legal i l;
       finished = λ o. d.finished (sym (ap (λ h. is_over h.phase) e) ∙ o);
     }

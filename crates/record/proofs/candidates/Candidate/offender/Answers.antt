@@ -12,5 +12,7 @@ returns c =
     let P = breaks ks c.args.phase c.args.self.now.marks.now in
     lowest_by P
     (finds (λ i b. P i ≡ b) _ (length ks) c.find.result c.count.ensures.value
-    (first_from_Range _ _ _ c.find.result (λ (i : ℕ). P i ≡ true) (λ (i : ℕ). P i ≡ false) c.find.ensures.ran (λ x q k. search (rules, tests)) (λ x q k. search (rules, tests))))
+    (first_from_Range _ _ _ c.find.result (λ (i : ℕ). P i ≡ true)
+    (λ (i : ℕ). P i ≡ false) c.find.ensures.ran (λ x q k. search (rules, tests))
+    (λ x q k. search (rules, tests))))
     (λ i b l e. sym e)

@@ -7,4 +7,6 @@ use Rattle.routine.proofs.rows.Rows.declared_before.Goals as goal
 
 pub returns : goal.returns
 returns c =
-    any_by (λ j. declares (kind_at (lent_kinds c.args.self.now) j) c.args.signal) c.args.i _ refl refl c.any.ensures.ran (λ x q k. search (rules, tests)) (λ x q k. search (rules, tests))
+    any_by (λ j. declares (kind_at
+    (lent_kinds c.args.self.now) j) c.args.signal) c.args.i _ refl refl c.any.ensures.ran
+    (λ x q k. search (rules, tests)) (λ x q k. search (rules, tests))

@@ -11,6 +11,8 @@ pub returns : goal.returns
 returns c =
     let t = c.args.self.now in
     let ss = t.statements.now in
-    let e : c.map_or.result ≡ kind_at (kinds ss) c.args.i = grind (arith, common_steps, gets, get_or-map) in
-    let a = level (length t.signals.now) (kinds ss) (length ss) c.args.i _ t.formed (kinds_length ss (length ss) refl) e in
+    let e : c.map_or.result ≡ kind_at (kinds ss) c.args.i =
+    grind (arith, common_steps, gets, get_or-map) in
+    let a = level (length t.signals.now) (kinds ss) (length ss) c.args.i _ t.formed
+    (kinds_length ss (length ss) refl) e in
     record { value = e; rise = a.0; level = a.1 }

@@ -9,10 +9,14 @@ use Rattle.routine.proofs.rows.Rows.named.Goals as goal
 
 pub sum-requires-clause-fits : goal.sum-requires-clause-fits
 sum-requires-clause-fits c =
-    fits_from_length _ _ 256 _ (at_most_from_yields_List (YieldsList-from_slice c.args.self.now.statements.now cc) c.args.self.now.most) c.map.ensures.closure (omega arith)
+    fits_from_length _ _ 256 _
+    (at_most_from_yields_List
+    (YieldsList-from_slice c.args.self.now.statements.now cc) c.args.self.now.most) c.map.ensures.closure (omega arith)
     (λ x r q k. search (rules, tests))
 
 pub returns : goal.returns
 returns c =
-    let e : c.sum.result ≡ sum_by (λ (x : Statement). names (shape x.kind) c.args.a) c.args.self.now.statements.now = search rules in
+    let e : c.sum.result ≡ sum_by
+    (λ (x : Statement). names (shape x.kind) c.args.a) c.args.self.now.statements.now =
+    search rules in
     e ∙ named_sum c.args.self.now.statements.now c.args.a
