@@ -9,7 +9,7 @@ ghost use Rattle.relay.specs.Promises.{closed_as};
 ghost use Rattle.handover.specs.Texts.{letter, ended_text, numbers_text, stepped_text, told_text};
 ghost use Rattle.handover.specs.Texts.{instant_line, byte_text};
 
-use occurrences::Closing;
+use count::Closing;
 use relay::Event;
 use routine::Mark;
 use std::alloc::AllocError;
