@@ -2,16 +2,16 @@ ghost use Rattle.std.specs.Prelude.{map};
 ghost use Rattle.relay.specs.Asked.{asked, begin, step, close, react, take_over};
 ghost use Rattle.relay.specs.Heard.{Tells, TellsAll};
 
-use crate::calls::Call;
+use crate::call::Call;
 use crate::listeners::Listener;
 use crate::news::News;
 use count::{Count, StepRow};
 use signals::Board;
 
-// Each call on a count, told to a listener. Nothing is allocated.
+// Each of these makes a call on the count and tells the listener what it came to.
 fn begin<B: Board, L: Listener>(count: &mut Count<B>, word: u64, listener: &mut L)
-    ensures { Tells B.present count.old count.new (begin word) (L.ear listener.old)
-        (L.ear listener.new) }
+    ensures { Tells B.present count.old count.new (begin word)
+        (L.ear listener.old) (L.ear listener.new) }
 {
     match count.begin(word) {
         Ok(()) => listener.hear(News::Begun { word }),
@@ -20,8 +20,8 @@ fn begin<B: Board, L: Listener>(count: &mut Count<B>, word: u64, listener: &mut 
 }
 
 fn step<B: Board, L: Listener>(count: &mut Count<B>, statement: usize, listener: &mut L)
-    ensures { Tells B.present count.old count.new (step statement) (L.ear listener.old)
-        (L.ear listener.new) }
+    ensures { Tells B.present count.old count.new (step statement)
+        (L.ear listener.old) (L.ear listener.new) }
 {
     match count.step(statement) {
         Ok(()) => listener.hear(News::Stepped { statement }),
@@ -42,8 +42,8 @@ fn close<B: Board, L: Listener>(count: &mut Count<B>, listener: &mut L)
 }
 
 fn react<B: Board, L: Listener>(count: &mut Count<B>, word: u64, listener: &mut L)
-    ensures { Tells B.present count.old count.new (react word) (L.ear listener.old)
-        (L.ear listener.new) }
+    ensures { Tells B.present count.old count.new (react word)
+        (L.ear listener.old) (L.ear listener.new) }
 {
     let mut row = StepRow::new();
     match count.react_traced(word, &mut row) {
@@ -58,8 +58,8 @@ fn react<B: Board, L: Listener>(count: &mut Count<B>, word: u64, listener: &mut 
 }
 
 fn take_over<B: Board, L: Listener>(count: &mut Count<B>, handed: &[u8], listener: &mut L)
-    ensures { Tells B.present count.old count.new (take_over handed.now) (L.ear listener.old)
-        (L.ear listener.new) }
+    ensures { Tells B.present count.old count.new (take_over handed.now)
+        (L.ear listener.old) (L.ear listener.new) }
 {
     match count.take_over(handed) {
         Ok(()) => listener.hear(News::TakenOver),
@@ -67,10 +67,10 @@ fn take_over<B: Board, L: Listener>(count: &mut Count<B>, handed: &[u8], listene
     }
 }
 
-// Carries out a call.
+// Carries out a call, and tells the listener what it came to.
 fn carry_out<B: Board, L: Listener>(count: &mut Count<B>, call: &Call<'_>, listener: &mut L)
-    ensures { Tells B.present count.old count.new (asked call.now) (L.ear listener.old)
-        (L.ear listener.new) }
+    ensures { Tells B.present count.old count.new (asked call.now)
+        (L.ear listener.old) (L.ear listener.new) }
 {
     match call {
         Call::Begin { word } => begin(count, *word, listener),
@@ -81,14 +81,15 @@ fn carry_out<B: Board, L: Listener>(count: &mut Count<B>, call: &Call<'_>, liste
     }
 }
 
-// Carries out the calls, one after another.
+/// Carries out the calls, one after another, and tells the listener what each came to. A refused
+/// call changes nothing, and the next one follows. Nothing is allocated.
 pub fn carry_out_all<B: Board, L: Listener>(
     count: &mut Count<B>,
     calls: &[Call<'_>],
     listener: &mut L,
 )
-    ensures { TellsAll B.present count.old count.new (map asked calls.now) (L.ear listener.old)
-        (L.ear listener.new) }
+    ensures { TellsAll B.present count.old count.new (map asked calls.now)
+        (L.ear listener.old) (L.ear listener.new) }
 {
     for call in calls {
         carry_out(count, call, listener);

@@ -1,7 +1,7 @@
 use Rattle.std.proofs.Common.{drop, map}
 use Rattle.relay.specs.Asked.{asked}
 use Rattle.relay.proofs.Telling.{Telling}
-use Rattle.relay.proofs.tellings.carry_out_all.Given as goal
+use Rattle.relay.proofs.carry_out.carry_out_all.Given as goal
 
 abbrev pub invariant-loop-call : goal.invariant-loop-call
 invariant-loop-call g l =

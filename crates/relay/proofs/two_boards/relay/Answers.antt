@@ -4,9 +4,9 @@ use Rattle.rules.proofs.Checked.{of_routine}
 use Rattle.record.proofs.Lists.{few_kinds}
 use Rattle.count.specs.CountView.{kinds_of, signals_of, state_of}
 use Rattle.relay.specs.Asked.{asked}
-use Rattle.relay.proofs.Alike.{told_as_model}
-use Rattle.relay.proofs.Passing.{relayed}
-use Rattle.relay.proofs.relays.relay.Goals as goal
+use Rattle.relay.proofs.Observed.{observed_as_model}
+use Rattle.relay.proofs.HandedOn.{relayed}
+use Rattle.relay.proofs.two_boards.relay.Goals as goal
 
 pub returns : goal.returns
 returns g c =
@@ -19,13 +19,14 @@ returns g c =
     let d = c.carry_out_all.new.count in
     let n = c.new-count.ensures in
     let r = c.carry_out_all.ensures in
+    let h = c.hand_on.ensures in
     let p =
     relayed A B (table_signals t) (signals_of a) (signals_of d) (table_kinds t) (kinds_of a)
-    (kinds_of d) cs ds (state_of A a) (state_of A d) _ _ _ _
-    n.signals n.kinds n.state r.routine.signals r.routine.kinds r.tells r.leaves _ _ c.hand_on.ensures.tells c.hand_on.ensures.routine in
+    (kinds_of d) cs ds (state_of A a) (state_of A d) _ _ _ _ n.signals n.kinds n.state
+    r.routine.signals r.routine.kinds r.tells r.leaves _ _ h.tells h.routine in
     record {
       tells = p.0;
       routine = p.1;
-      model = told_as_model (table_signals t) (table_kinds t) (of_routine c.args.routine)
+      model = observed_as_model (table_signals t) (table_kinds t) (of_routine c.args.routine)
           (few_kinds t) A B cs ds _ _ _ _ _ p.0;
     }

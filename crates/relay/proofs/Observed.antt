@@ -1,5 +1,4 @@
--- what is heard in a relay is as the model says, and in two of them the same words give the same
--- instants
+-- what is heard in a relay is as the model says, and in two relays the words alone decide
 use Rattle.std.proofs.Common.{◌≡◌, ◌≤◌, Bool, List, ◌∷◌, ◌++◌, length, sym, ap, ap₂, ◌∙◌, subst}
 use Rattle.std.proofs.lemmas.List.{append_cancel_left}
 use Rattle.routine.specs.declared.kinds.Kind.{Kind}
@@ -9,18 +8,19 @@ use Rattle.count.specs.Calls.{new_state}
 use Rattle.relay.specs.Asked.{Asked}
 use Rattle.relay.specs.Heard.{Ear, ObservedAsModel, ObservedAlike}
 use Rattle.relay.specs.History.{Transition, takes_over, trace, after_calls}
-use Rattle.relay.specs.Promises.{taken, AsModel}
+use Rattle.relay.specs.ClosedInstants.{taken, AsModel}
 use Rattle.relay.specs.Relays.{Relays}
-use Rattle.relay.specs.declared.relays.Relayed.{Relayed}
+use Rattle.relay.specs.declared.two_boards.Relayed.{Relayed}
 use Rattle.relay.proofs.Histories.{trace_append, as_model, same_instants}
 
 module _ (gs : List SignalKind) (ks : List Kind) where
-  pub told_as_model : Checked gs ks → length ks ≤ 256
+  -- what was heard in a relay is as the model says
+  pub observed_as_model : Checked gs ks → length ks ≤ 256
       → {A B : Type 0} (first : A → List Bool) (second : B → List Bool) (cs ds : List Asked)
       (old new old' new' : Ear) (r : Relayed A B)
       → Relays first second gs ks cs ds old new old' new' r
       → ObservedAsModel gs ks old new old' new'
-  told_as_model C few first second cs ds old new old' new' r R ps qs T =
+  observed_as_model C few first second cs ds old new old' new' r R ps qs T =
       let s = new_state ks in
       let a : List Transition = trace gs ks s cs in
       let b : List Transition = trace gs ks (after_calls gs ks s cs) ds in
@@ -34,12 +34,13 @@ module _ (gs : List SignalKind) (ks : List Kind) where
       subst (AsModel gs ks) (sym whole)
       (as_model gs ks C few (cs ++ ds) (ap taken (sym whole) ∙ T.untaken))
 
-  pub told_alike : (a a' b b' c c' d d' : Ear) → ObservedAsModel gs ks a a' b b'
+  -- what was heard in two relays, where each is as the model says
+  pub observed_alike : (a a' b b' c c' d d' : Ear) → ObservedAsModel gs ks a a' b b'
       → ObservedAsModel gs ks c c' d d' → ObservedAlike (length ks) a a' b b' c c' d d'
-  told_alike a a' b b' c c' d d' M N ps qs rs ss T U =
+  observed_alike a a' b b' c c' d d' M N ps qs rs ss T U =
       same_instants gs ks (ps ++ qs) (rs ++ ss) (M ps qs T) (N rs ss U)
 
--- of the same routine, given back
+-- the second relay is of the routine that the first gave back
 pub same_model : (gs xs : List SignalKind) (ks ys : List Kind) (a a' b b' : Ear) → xs ≡ gs → ys ≡ ks
     → ObservedAsModel xs ys a a' b b' → ObservedAsModel gs ks a a' b b'
 same_model gs xs ks ys a a' b b' e f M =

@@ -1,4 +1,4 @@
--- a count that is handed over and goes on elsewhere
+-- a count that is handed over and goes on elsewhere, and a relay of two such halves
 use Rattle.std.proofs.Common.{◌≡◌, ℕ, ◌≤◌, Bool, List, [], ◌∷◌, ◌++◌, length, vec_items, ap, ap₂}
 use Rattle.std.proofs.Common.{◌∙◌, subst}
 use Rattle.routine.specs.declared.kinds.Kind.{Kind}
@@ -17,26 +17,28 @@ use Rattle.relay.specs.Asked.{Asked, take_over}
 use Rattle.relay.specs.Heard.{Ear, Grows, TellsAll}
 use Rattle.relay.specs.History.{takes_over, trace, after_calls}
 use Rattle.relay.specs.Relays.{HandsOn, Relays, LeftAs, at_last}
-use Rattle.relay.specs.declared.relays.Relayed.{Relayed}
+use Rattle.relay.specs.declared.two_boards.Relayed.{Relayed}
 use Rattle.relay.proofs.Resumed.{grows_as, from_sound, left_from_sound}
 
--- (of a routine) a state that is handed on by its record, to a count of the same routine that is at
--- u
+-- (of a routine) a sound state s that is handed on by its record
 module _ (gs : List SignalKind) (ks : List Kind) (few : length ks ≤ 256) (some : length gs ≤ 64)
     (s : State) (S : Sound gs ks s) (bytes : List ℕ)
     (handed : bytes ≡ record_of (length gs) (length ks) s) (ds : List Asked) where
+  -- to a count c of the same routine, which takes it over, carries out the calls ds and is d
   module _ {B : Type 0} {G : Ghosts B} (present : B → List Bool) (c d : Count B G)
       (e : signals_of c ≡ gs) (f : kinds_of c ≡ ks) (old new : Ear)
       (T : TellsAll present c d ([] ++ (take_over bytes ∷ ds)) old new) where
-    pub later_told : Grows old new (takes_over ∷ trace gs ks s ds)
+    -- what is heard there
+    pub later_heard : Grows old new (takes_over ∷ trace gs ks s ds)
     unfolding trace
-    later_told =
+    later_heard =
         let u = state_of present c in
         from_sound gs ks u [] bytes ds old new
         (grows_as old new _ _ T.tells
         (ap₂ (λ (x : List SignalKind) (y : List Kind).
         trace x y u (take_over bytes ∷ ds)) e f)) few some s S handed
 
+    -- the state in which it is left
     pub left_at : state_of present d ≡ after_calls gs ks s ds
     left_at =
         let u = state_of present c in
@@ -50,6 +52,7 @@ module _ (gs : List SignalKind) (ks : List Kind) (few : length ks ≤ 256) (some
     pub left_kinds : kinds_of d ≡ ks
     left_kinds = T.routine.kinds ∙ f
 
+    -- its record then
     pub left_record : (last : List ℕ)
         → last ≡ record_of (length (signals_of d)) (length (kinds_of d)) (state_of present d)
         → last ≡ record_of (length gs) (length ks) (after_calls gs ks s ds)
@@ -58,6 +61,7 @@ module _ (gs : List SignalKind) (ks : List Kind) (few : length ks ≤ 256) (some
         record_of (length x) (length y) (state_of present d)) left_signals left_kinds
         ∙ ap (record_of (length gs) (length ks)) left_at
 
+    -- its routine then
     pub left_routine : (r : Routine) → r ≡ d.rows.routine
         → LeftAs gs ks (after_calls gs ks s ds).marks r
     left_routine r e =
@@ -68,25 +72,26 @@ module _ (gs : List SignalKind) (ks : List Kind) (few : length ks ≤ 256) (some
               ∙ ap (λ (x : State). x.marks) left_at;
         }
 
--- a relay: a new count, at s, of the routine gs ks as xs ys; the calls cs, which led to t; and its
--- hand-over
+-- a relay of the routine gs ks: the state s of a new count, whose routine is xs ys; the calls cs,
+-- which lead to the state t, where the routine is us vs; and the hand-over
 module _ {A B : Type 0} (first : A → List Bool) (second : B → List Bool)
     (gs xs us : List SignalKind) (ks ys vs : List Kind) (cs ds : List Asked) (s t : State)
     (old new old' new' : Ear)
     (e : xs ≡ gs) (f : ys ≡ ks) (i : s ≡ new_state ks) (e2 : us ≡ xs) (f2 : vs ≡ ys)
-    (told : Grows old new (trace xs ys s cs)) (leaves : t ≡ after_calls xs ys s cs)
+    (heard : Grows old new (trace xs ys s cs)) (leaves : t ≡ after_calls xs ys s cs)
     (r : Relayed A B) (q : Routine) where
   midway : t ≡ after_calls gs ks (new_state ks) cs
   midway = leaves ∙ ap₂ (λ (x : List SignalKind) (y : List Kind). after_calls x y s cs) e f
       ∙ ap (λ (u : State). after_calls gs ks u cs) i
 
+  -- both halves together
   pub relayed : HandsOn first second us vs t ds old' new' r
       → LeftAs us vs (after_calls us vs t ds).marks q
       → Relays first second gs ks cs ds old new old' new' r
       × LeftAs gs ks (at_last gs ks cs ds).marks q
   relayed h l = (
     record {
-      before = grows_as old new _ _ told
+      before = grows_as old new _ _ heard
           (ap₂ (λ (x : List SignalKind) (y : List Kind). trace x y s cs) e f
           ∙ ap (λ (u : State). trace gs ks u cs) i);
       hands_on = subst (λ (u : State). HandsOn first second gs ks u ds old' new' r) midway

@@ -1,4 +1,4 @@
--- one call: where it leaves a count, and what it adds to what the model says
+-- one call: where it leaves a count, and what its transition adds to what the model says
 use Rattle.std.proofs.Common.{◌≡◌, ◌≢◌, ℕ, zero, suc, ◌+◌, ◌*◌, ◌≤◌, Bool, true, false, cond, List}
 use Rattle.std.proofs.Common.{[], ◌∷◌, ◌++◌, length, take, map, Some, None, Option, sym, refl, ap}
 use Rattle.std.proofs.Common.{◌∙◌, subst, ap₂, arith}
@@ -33,8 +33,8 @@ use Rattle.count.proofs.Sound.{never, same_phase, after_not_open}
 use Rattle.relay.specs.Asked.{Asked, begin, step, close, react, take_over}
 use Rattle.relay.specs.History.{Transition, begins, steps, closes, reacts, takes_over, if_accepted}
 use Rattle.relay.specs.History.{transition_of, after_call}
-use Rattle.relay.specs.Promises.{accepted, ClosedInstant, closed_instants, left_open}
-use Rattle.relay.proofs.Accepted.{was_ready, none_ready}
+use Rattle.relay.specs.ClosedInstants.{accepted, ClosedInstant, closed_instants, left_open}
+use Rattle.relay.proofs.AcceptedCalls.{never_refused, was_ready, none_ready}
 
 -- one step more at the end of a run
 run_push : {S L : Type 0} {Ready : S → L → Type 0} {next : S → L → S} {s z : S} {w : List L} {i : L}
@@ -52,7 +52,7 @@ closed_not_open b = ap is_open (same_phase b) ∙ after_not_open b
 begun_resting : (p : Phase) (gs : List SignalKind) (n w : ℕ) → begin_by p gs n w ≡ None
     → is_open p ≡ false
 begun_resting Resting gs n w h = refl
-begun_resting Open gs n w h = absurd (let z : ◌≡◌ {A = ℕ} 0 1 = cc in omega arith)
+begun_resting Open gs n w h = never_refused h
 begun_resting Over gs n w h = refl
 
 module _ (gs : List SignalKind) (ks : List Kind) (C : Checked gs ks) (few : length ks ≤ 256) where
@@ -60,30 +60,33 @@ module _ (gs : List SignalKind) (ks : List Kind) (C : Checked gs ks) (few : leng
   abbrev Runs : List Mark → ℕ → List ℕ → Config → Type 0
   Runs ms word v x = Run (Ready ks) (stepped ks) (ms, word_set word) v x
 
+  -- steps keep the marks legal
   pub run_legal : {c x : Config} {v : List ℕ} → Run (Ready ks) (stepped ks) c v x
       → Legal true ks c.0 → Legal true ks x.0
   run_legal still L = L
   run_legal {c = c} (then {i = i} r t) L = run_legal t ((marks_stay_legal gs ks C).steps c i L r)
 
+  -- an instant has at most 4 steps for each statement
   pub few_steps : (ms : List Mark) (word : ℕ) {v : List ℕ} {x : Config} → Legal true ks ms
       → Runs ms word v x → length v ≤ 4 * length ks
   few_steps ms word L r = (instant_ends gs ks C).bounded (ms, word_set word) _ _ L r
 
+  -- the model's own steps are such steps
   pub model_runs : (ms : List Mark) (word : ℕ) → Legal true ks ms
       → Runs ms word (path ks (enough ks) (ms, word_set word))
       (settled ks (enough ks) (ms, word_set word))
   model_runs ms word L = (instant_ends gs ks C).model_runs (ms, word_set word) L
 
-  -- where the calls stand, at state s and after the steps v of an open instant: between instants,
-  -- at the marks ms and with no word; or in an open instant that began at the marks ms with one
-  -- word, and whose steps v lead to the marks and the set that the count has
+  -- where the calls stand, in state s after the steps v of the open instant: between instants, at
+  -- the marks ms and with no word; or in an open instant that began at the marks ms with one word,
+  -- and whose steps v lead to the marks and the signals of s
   pub data Stands (s : State) (v : List ℕ) : List Mark → List ℕ → Type 0 where
     between : is_open s.phase ≡ false → Legal false ks s.marks → v ≡ [] → Stands s v s.marks []
     inside : {ms : List Mark} {word : ℕ} → is_open s.phase ≡ true → Legal true ks ms
         → Runs ms word v (s.marks, s.present) → s.steps ≡ length v → Stands s v ms (word ∷ [])
 
-  -- the ended instants es, after n others, are what the model gives for the words ws from the marks
-  -- ms on, numbered, of few steps each; v: the steps of an instant that was left open
+  -- the closed instants es, after n others, are what the model gives for the words ws from the
+  -- marks ms on, numbered, of few steps each; v: the steps of an instant that was left open
   pub record AsModelFrom (ms : List Mark) (n : ℕ) (ws : List ℕ) (es : List ClosedInstant)
       (v : List ℕ) : Type 0 where
     pub instants : map (λ (e : ClosedInstant). e.outcome) es
@@ -95,7 +98,7 @@ module _ (gs : List SignalKind) (ks : List Kind) (C : Checked gs ks) (few : leng
         → e.accepted_steps ≤ 4 * length ks
     pub open_steps : length v ≤ 4 * length ks
 
-  -- one instant more in front
+  -- one closed instant more in front
   module _ (ms : List Mark) (n word t : ℕ) (o : Outcome) (L : Legal true ks ms)
       (same : o ≡ instant gs ks ms word) (all : o.steps ≡ t) (ws : List ℕ) (es : List ClosedInstant)
       (v : List ℕ)
@@ -113,8 +116,8 @@ module _ (gs : List SignalKind) (ks : List Kind) (C : Checked gs ks) (few : leng
         (same_Some _ x h) all
     counts (suc k) x h = F.counted k x h
 
-    few_taken : t ≤ 4 * length ks
-    few_taken =
+    few_accepted : t ≤ 4 * length ks
+    few_accepted =
         let f : o.steps ≡ (instant gs ks ms word).steps = ap (λ (y : Outcome). y.steps) same in
         let l = few_steps ms word L (model_runs ms word L) in
         omega (arith, all)
@@ -122,11 +125,11 @@ module _ (gs : List SignalKind) (ks : List Kind) (C : Checked gs ks) (few : leng
     bounded : (k : ℕ) (x : ClosedInstant) → slice_get (e ∷ es) k ≡ Some x
         → x.accepted_steps ≤ 4 * length ks
     bounded zero x h = subst (λ (y : ClosedInstant). y.accepted_steps ≤ 4 * length ks)
-        (same_Some _ x h) few_taken
+        (same_Some _ x h) few_accepted
     bounded (suc k) x h = F.closed_steps k x h
 
-    one_ended : AsModelFrom ms n (word ∷ ws) (e ∷ es) v
-    one_ended =
+    one_closed : AsModelFrom ms n (word ∷ ws) (e ∷ es) v
+    one_closed =
         record {
           instants = ap₂ ◌∷◌ same (F.instants
               ∙ ap (λ (x : Outcome). take (length es) (instants_from gs ks x.marks ws)) same);
@@ -136,13 +139,13 @@ module _ (gs : List SignalKind) (ks : List Kind) (C : Checked gs ks) (few : leng
           open_steps = F.open_steps;
         }
 
-  -- so it is of the calls from s on, which came to ps, where v was stepped before
+  -- the same of the closed instants of the trace ps of calls from s on, where v was stepped before
   abbrev pub Follows : List Mark → List ℕ → State → List ℕ → List Transition → Type 0
   Follows ms ws s v ps = AsModelFrom ms s.closed (ws ++ accepted ps)
       (closed_instants (length ks) v ps) (left_open v ps)
 
-  -- a call came to p and leads from s to t, and it is so of the calls from s on where it is so of
-  -- those from t on
+  -- a call came to p and leads from s to t, and the trace from s on follows the model where that
+  -- from t on does
   pub record Leads (s : State) (v : List ℕ) (t : State) (p : Transition) (ms : List Mark)
       (ws : List ℕ) : Type 0 where
     pub stepped_then : List ℕ
@@ -196,7 +199,7 @@ module _ (gs : List SignalKind) (ks : List Kind) (C : Checked gs ks) (few : leng
           words = [];
           stands = between (closed_not_open (over (tree_at ks 0) s.marks))
               ((marks_stay_legal gs ks C).ends x (run_legal r L)) refl;
-          before = λ ps F. one_ended ms s.closed word (length v) _ L same e (accepted ps)
+          before = λ ps F. one_closed ms s.closed word (length v) _ L same e (accepted ps)
               (closed_instants (length ks) [] ps) (left_open [] ps) F;
         }
 
@@ -214,14 +217,14 @@ module _ (gs : List SignalKind) (ks : List Kind) (C : Checked gs ks) (few : leng
           words = [];
           stands = between (after_not_open (over (tree_at ks 0) x.0))
               ((marks_stay_legal gs ks C).ends x (run_legal (model_runs s.marks word L') L')) refl;
-          before = λ ps F. one_ended s.marks s.closed word
+          before = λ ps F. one_closed s.marks s.closed word
               (length (steps_from ks (begin_state s word)))
               (instant gs ks s.marks word) L' refl refl (accepted ps)
               (closed_instants (length ks) [] ps) (left_open [] ps) F;
         }
     by_react word (inside o L r e) h = absurd (never _ o (begun_resting s.phase gs s.closed word h))
 
-    -- a refused call leads nowhere else
+    -- a refused call leads to s itself
     unless_refused : (t : State) (p : Transition)
         (o : Option Refusal) {ms : List Mark} {ws : List ℕ} → Stands s v ms ws
         → (o ≡ None → Leads s v t p ms ws)
@@ -230,6 +233,7 @@ module _ (gs : List SignalKind) (ks : List Kind) (C : Checked gs ks) (few : leng
     unless_refused t p (Some r) {ms = ms} {ws = ws} S f =
         record { stepped_then = v; marks = ms; words = ws; stands = S; before = λ ps F. F }
 
+    -- each call but an accepted take over leads so
     pub by_call : (c : Asked) {ms : List Mark} {ws : List ℕ} → Stands s v ms ws
         → transition_of gs ks s c ≢ takes_over
         → Leads s v (after_call gs ks s c) (transition_of gs ks s c) ms ws

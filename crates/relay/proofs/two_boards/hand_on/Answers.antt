@@ -7,8 +7,8 @@ use Rattle.count.specs.CountView.{kinds_of, signals_of, state_of}
 use Rattle.count.proofs.TakenOver.{few_signals}
 use Rattle.relay.specs.Asked.{asked}
 use Rattle.count.proofs.Passing.{sound_count}
-use Rattle.relay.proofs.Passing.{later_told, left_at, left_record, left_routine}
-use Rattle.relay.proofs.relays.hand_on.Goals as goal
+use Rattle.relay.proofs.HandedOn.{later_heard, left_at, left_record, left_routine}
+use Rattle.relay.proofs.two_boards.hand_on.Goals as goal
 
 pub returns : goal.returns
 returns g c =
@@ -33,7 +33,7 @@ returns g c =
     record {
       tells = record {
         handed = h.record;
-        later = later_told gs ks k m s S _ h.record ds B b d e f _ _ t;
+        later = later_heard gs ks k m s S _ h.record ds B b d e f _ _ t;
         left = left_record gs ks k m s S _ h.record ds B b d e f _ _ t _ l.record;
         first_board = ap A h.board;
         second_board = ap B l.board
