@@ -11,7 +11,7 @@ use Rattle.routine.specs.declared.refusals.Refusal.{Refusal}
 use Rattle.routine.specs.declared.refusals.Refusal.TheVariants.{Memory}
 use Rattle.routine.specs.Kinds.{kinds}
 use Rattle.routine.specs.Refusals.{AnswersOrMemory}
-use Rattle.routine.specs.View.{kinds_of as kinds_read, signals_of as signals_read}
+use Rattle.routine.specs.View.{table_kinds, table_signals}
 use Rattle.routine.specs.View.{load_of, routine_content}
 use Rattle.routine.proofs.Answered.{value_said}
 use Rattle.signals.specs.declared.board.Board.{Ghosts}
@@ -93,8 +93,8 @@ module _ {B : Type 0} {G : Ghosts B} (present : B → List Bool) where
   -- (c is a new count of the table's routine)
   module _ (table : List ℕ) (r : Routine) (c : Count B G) (cs : List Closing) (none : cs ≡ [])
       (loaded : AnswersOrMemory (load_of table) routine_content (Ok r))
-      (k : kinds_of c ≡ kinds_read r.table) (g : signals_of c ≡ signals_read r.table)
-      (s : state_of present c ≡ new_state (kinds_read r.table)) where
+      (k : kinds_of c ≡ table_kinds r.table) (g : signals_of c ≡ table_signals r.table)
+      (s : state_of present c ≡ new_state (table_kinds r.table)) where
     pub told_new : (ws : List ℕ) → by_one table ws ≡ told present cs c ws
     told_new ws =
         rw (none, k, g, s)
@@ -124,11 +124,11 @@ module _ {A B : Type 0} {F : Ghosts A} {G : Ghosts B} (table : List ℕ) (q r : 
       let b = value_said (load_of table) routine_content r k in
       cc
 
-  pub same_kinds : kinds_of c ≡ kinds_read q.table → kinds_of start ≡ kinds_read r.table
+  pub same_kinds : kinds_of c ≡ table_kinds q.table → kinds_of start ≡ table_kinds r.table
       → kinds_of start ≡ kinds_of d
   same_kinds a b = b ∙ ap (λ t. kinds t.1) same ∙ sym a ∙ sym x.kinds
 
-  pub same_signals : signals_of c ≡ signals_read q.table → signals_of start ≡ signals_read r.table
+  pub same_signals : signals_of c ≡ table_signals q.table → signals_of start ≡ table_signals r.table
       → signals_of start ≡ signals_of d
   same_signals a b = b ∙ ap (λ t. t.0) same ∙ sym a ∙ sym x.signals
 

@@ -4,6 +4,7 @@ ghost use Rattle.count.specs.CountView.{kinds_of, signals_of, state_of};
 ghost use Rattle.device.specs.Closings.{ReactsAll, by_one, IsOrMemory};
 
 use count::{Closing, Count};
+use record::RECORD_BYTES;
 use routine::{Refusal, load};
 use signals::Board;
 use std::alloc::Global;
@@ -24,11 +25,11 @@ fn react_all<B: Board>(
 }
 
 /// The record of the count, by which a count of the same routine goes on where this one stands.
-fn into_record<B: Board + Drop>(count: Count<B>) -> [u8; 279]
+fn into_record<B: Board + Drop>(count: Count<B>) -> [u8; RECORD_BYTES]
     ensures accepted { taking_refusal (signals_of count) (kinds_of count) result ≡ None }
     ensures says { state_in (length (kinds_of count)) result ≡ state_of B.present count }
 {
-    let mut record = [0; 279];
+    let mut record = [0; RECORD_BYTES];
     count.hand_over(&mut record);
     record
 }
