@@ -5,11 +5,14 @@ ghost use Rattle.record.specs.Taking.{phase_in};
 
 use rules::Status;
 
-// Where a count stands: between instants, in an open instant, or at the routine's end.
+/// Where a count stands.
 #[derive(Clone, Copy, Debug, PartialEq, Eq)]
 pub enum Phase {
+    /// Between two instants, or before the first.
     Resting,
+    /// In an open instant.
     Open,
+    /// At the end of the routine: no instant follows.
     Over,
 }
 

@@ -2,7 +2,7 @@ use Rattle.std.proofs.Common.{ℕ, ◌+◌, Some, slice_index, rules}
 use Rattle.rules.specs.Rules.{Idle}
 use Rattle.record.specs.Taking.{mark_in, marks_read}
 use Rattle.record.proofs.Arrays.{made}
-use Rattle.record.proofs.records.marks.Goals as goal
+use Rattle.record.proofs.reading.read_marks.Goals as goal
 
 pub returns : goal.returns
 unfolding marks_read

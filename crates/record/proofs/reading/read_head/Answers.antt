@@ -1,6 +1,6 @@
 use Rattle.std.proofs.Common.{rules}
 use Rattle.record.specs.Taking.{head_in, head_fault}
-use Rattle.record.proofs.records.head.Goals as goal
+use Rattle.record.proofs.reading.read_head.Goals as goal
 
 pub returns-in_default : goal.returns-in_default
 unfolding head_fault

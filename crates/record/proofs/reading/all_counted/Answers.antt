@@ -3,7 +3,7 @@ use Rattle.std.proofs.lemmas.List.{length-map}
 use lib.ListN.{get_or-map}
 use Rattle.rules.specs.Rules.{Idle}
 use Rattle.record.specs.Taking.{counted}
-use Rattle.record.proofs.records.all_counted.Goals as goal
+use Rattle.record.proofs.reading.all_counted.Goals as goal
 
 pub returns : goal.returns
 returns c =

@@ -7,7 +7,7 @@ use Rattle.record.proofs.Arrays.{made}
 use Rattle.record.proofs.Forms.{bytes_written}
 use Rattle.record.proofs.Lists.{marks_many, few_kinds}
 use Rattle.record.proofs.Restored.{is_taken}
-use Rattle.record.proofs.records.write.Goals as goal
+use Rattle.record.proofs.writing.write.Goals as goal
 
 pub returns-clause-bytes : goal.returns-clause-bytes
 returns-clause-bytes c =

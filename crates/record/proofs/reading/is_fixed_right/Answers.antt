@@ -3,7 +3,7 @@ use borrow.Author.Tests.{tests}
 use Rattle.routine.specs.View.{table_kinds}
 use Rattle.routine.proofs.Searches.{any_by}
 use Rattle.record.specs.Taking.{is_wrong, is_fixed_right}
-use Rattle.record.proofs.records.is_fixed_right.Goals as goal
+use Rattle.record.proofs.reading.is_fixed_right.Goals as goal
 
 pub returns : goal.returns
 unfolding is_fixed_right

@@ -1,7 +1,7 @@
 use Rattle.std.proofs.Common.{false, refl}
 use Rattle.routine.specs.View.{table_kinds, table_signals}
 use Rattle.record.proofs.Forms.{misfit, taken_by}
-use Rattle.record.proofs.records.read.Goals as goal
+use Rattle.record.proofs.reading.read.Goals as goal
 
 pub returns-in-None : goal.returns-in-None
 returns-in-None c =

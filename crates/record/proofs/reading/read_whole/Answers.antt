@@ -8,7 +8,7 @@ use Rattle.record.specs.Taking.{head_in, head_fault, counted}
 use Rattle.record.proofs.Answered.{not_refused, answered, refused}
 use Rattle.record.proofs.Lists.{few_kinds, read_cut}
 use Rattle.record.proofs.Forms.{fault_read, misformed, well_formed, taken_by}
-use Rattle.record.proofs.records.read_whole.Goals as goal
+use Rattle.record.proofs.reading.read_whole.Goals as goal
 
 pub returns-then-not-is_fixed_right : goal.returns-then-not-is_fixed_right
 returns-then-not-is_fixed_right c =
@@ -36,7 +36,7 @@ returns-in-Some c =
     let o = head_fault (length (table_signals t)) b in
     let p = ap (λ h. h.phase) (answered o _ (head_in b) c.in-Ok.ensures) in
     let ms = ap₂ (λ (k : ℕ) (rs : List (Option Mark)).
-    take k rs) c.count.ensures.value c.marks-marks.ensures
+    take k rs) c.count.ensures.value c.read_marks-marks.ensures
     ∙ read_cut (length ks) b (few_kinds t) in
     taken_by (table_signals t) ks b true None (Some c.in-Some.statement) w
     (not_refused o _ (head_in b) c.in-Ok.ensures)
@@ -52,9 +52,9 @@ returns c =
     let o = head_fault (length (table_signals t)) b in
     let h = answered o _ (head_in b) c.in-Ok.ensures in
     let ms = ap₂ (λ (k : ℕ) (rs : List (Option Mark)).
-    take k rs) c.count.ensures.value c.marks-marks.ensures
+    take k rs) c.count.ensures.value c.read_marks-marks.ensures
     ∙ read_cut (length ks) b (few_kinds t) in
     ap₂ (λ (k : Head) (ns : List Mark). Ok (record { head = k; marks = ns })) h
-    (c.all_counted.ensures ∙ ap (map counted) c.marks-marks.ensures)
+    (c.all_counted.ensures ∙ ap (map counted) c.read_marks-marks.ensures)
     ∙ taken_by (table_signals t) ks b true None None w (not_refused o _ (head_in b) c.in-Ok.ensures)
     (fault_read ks b _ _ (ap (λ k. k.phase) h) ms ∙ sym c.in_default.ensures)
