@@ -9,11 +9,13 @@ use routine::MOST_SIGNALS;
 /// How many instants a count can close: the number of the last one.
 pub const MOST_INSTANTS: u32 = u32::MAX;
 
-// Where the fields after the phase lie in the head.
+// Where the closed instants lie in the head. The phase lies before them.
 pub(crate) const CLOSED_OFFSET: usize = 1;
 
+// Where the steps lie in it.
 pub(crate) const STEPS_OFFSET: usize = 5;
 
+// Where the word of the present signals lies in it.
 pub(crate) const PRESENT_OFFSET: usize = 7;
 
 /// What a count is at, but for its marks: the head of its record.

@@ -16,7 +16,7 @@ pub enum Phase {
     Over,
 }
 
-// Where a closed instant of that status leaves the count.
+/// Where a closed instant of that status leaves the count.
 impl From<Status> for Phase {
     ghost from_gives = { λ s p. p ≡ phase_of s };
 
@@ -28,7 +28,7 @@ impl From<Status> for Phase {
     }
 }
 
-// How a record writes it.
+/// How a record writes a phase.
 impl From<Phase> for u8 {
     ghost from_gives = { λ p b. b ≡ phase_byte p };
 

@@ -38,6 +38,7 @@ fn is_wrong(bytes: &[u8; RECORD_BYTES], expected: &[u8; HEAD_START], n: usize, i
     (i < HEAD_START || i >= MARKS_START + n) && bytes[i] != expected.get(i).copied().unwrap_or(0)
 }
 
+// Are the contents and the zeros after the last mark right?
 fn is_fixed_right(bytes: &[u8; RECORD_BYTES], routine: &Routine) -> bool
     ensures { result ≡ is_fixed_right (length (table_kinds routine.now.table)) bytes.now }
 {
@@ -79,6 +80,7 @@ fn all_counted(marks: &[Option<Mark>; MOST_STATEMENTS]) -> [Mark; MOST_STATEMENT
     marks.map(marks::counted)
 }
 
+// What bytes of the right length say.
 fn read_whole(bytes: &[u8; RECORD_BYTES], routine: &Routine) -> Result<Saved, Refusal>
     ensures { result ≡ answer
         (taking_refusal (table_signals routine.now.table) (table_kinds routine.now.table) bytes.now)

@@ -1,6 +1,7 @@
-use Rattle.std.proofs.Common.{◌<◌, sym, ap, ◌∙◌, arith, rules, length, vec_items}
+use Rattle.std.proofs.Common.{◌^◌, ◌<◌, sym, ap, ◌∙◌, arith, rules, length, vec_items}
 use Rattle.routine.specs.Kinds.{marks}
 use Rattle.routine.specs.View.{table_kinds, table_signals}
+use Rattle.record.specs.declared.layout.TheConstants.{RECORD_BYTES}
 use Rattle.record.specs.Record.{contents, head_bytes, byte_at}
 use Rattle.record.specs.Taking.{taking_refusal}
 use Rattle.record.proofs.Arrays.{made}
@@ -16,14 +17,14 @@ returns-clause-bytes c =
     let ms = marks (vec_items t.statements) in
     let n = length (table_kinds t) in
     made _ _ (byte_at (contents n) (head_bytes h) ms)
-    (λ i y q e. search rules) _ 0 279 c.from_fn.ensures.items
+    (λ i y q e. search rules) _ 0 RECORD_BYTES c.from_fn.ensures.items
     ∙ sym (bytes_written n h ms (marks_many t) (few_kinds t))
 
 pub returns-clause-accepted : goal.returns-clause-accepted
 returns-clause-accepted c =
     let s = c.args.standing in
     let t = s.routine.now.table in
-    let w : s.head.present < 18446744073709551616 = search rules in
+    let w : s.head.present < 2 ^ 64 = search rules in
     ap (taking_refusal (table_signals t) (table_kinds t)) (returns-clause-bytes c)
     ∙ is_taken (table_signals t) (table_kinds t) s.head (marks (vec_items t.statements))
     (few_kinds t) (search rules) (search rules) (omega (arith, w))
