@@ -8,7 +8,7 @@
 A list is tools/plants/CRATE.txt. A plant is a block of lines, and an empty line ends it:
 
     function: step             the function, or the method, in which it stands
-    file: src/calls.rt
+    file: src/instants.rt
     old: a line's text, which stands once in that file
     new: what stands there instead
     same: why nothing changes  only where the program means the same as before, so that the check may let it through

@@ -115,10 +115,11 @@ module _ (gs : List SignalKind) (ks : List Kind) (bytes : List ℕ)
       → get_or bytes i 0 ≡ get_or (contents (length ks)) i 0
   fixed = fixed_right (length ks) bytes (formed (length ks) bytes three.0).1
 
-  -- the first byte of the head is a phase, and no field is bad
+  -- the first byte of the head is a phase
   pub some_phase : get_or bytes HEAD_START 0 < 3
   some_phase = (head_taken (length gs) bytes three.1).0
 
+  -- no field of the head is bad
   pub faultless : fault_by (head_in bytes).phase (length gs) (head_in bytes) ≡ None
   faultless = (head_taken (length gs) bytes three.1).1
 
@@ -134,13 +135,15 @@ module _ (gs : List SignalKind) (ks : List Kind) (bytes : List ℕ)
       || ((i == 0) && (is_over phase && not (over (tree_at ks 0) ms)))) ≡ false)
   unbroken i l = or_parts _ _ (marks_taken ks bytes three.2 i l)
 
-  -- each statement has a mark, keeps its rule, and at the end statement 0 is over
+  -- each statement has a mark
   pub some_mark : (i : ℕ) → i < length ks → get_or bytes (MARKS_START + i) 0 < 4
   some_mark i l = is_mark (slice_index bytes (MARKS_START + i))
       (ap is_some (sym (at-marks_read (length ks) bytes i l)) ∙ not-false _ (unbroken i l).0)
 
+  -- each statement keeps its rule
   pub each_keeps : (i : ℕ) → i < length ks → keeps (is_open phase) ks ms i ≡ true
   each_keeps i l = not-false _ (or_parts _ _ (unbroken i l).1).0
 
+  -- at the end statement 0 is over
   pub at_end : 0 < length ks → is_over phase ≡ true → over (tree_at ks 0) ms ≡ true
   at_end z = unless (is_over phase) (over (tree_at ks 0) ms) (or_parts _ _ (unbroken 0 z).1).1

@@ -32,7 +32,7 @@ phase_read Resting = refl
 phase_read Open = refl
 phase_read Over = refl
 
--- the same of marks
+-- a byte that is a mark is how that mark is written
 pub mark_again : (b : ℕ) → b < 4 → mark_byte (counted (mark_in b)) ≡ b
 mark_again zero l = refl
 mark_again (suc zero) l = refl
@@ -40,6 +40,7 @@ mark_again (suc (suc zero)) l = refl
 mark_again (suc (suc (suc zero))) l = refl
 mark_again (suc (suc (suc (suc b)))) l = absurd (omega arith)
 
+-- how a mark is written is read as that mark
 pub mark_read : (m : Mark) → mark_in (mark_byte m) ≡ Some m
 mark_read Idle = refl
 mark_read Waiting = refl
@@ -53,20 +54,24 @@ module _ (n : ℕ) (bytes : List ℕ) where
   length-marks_read =
       length-map-range_with_len (λ i. mark_in (slice_index bytes (MARKS_START + i))) 0 n
 
+  -- the byte of statement i as a mark
   pub at-marks_read : (i : ℕ) → i < n
       → get_or (marks_read n bytes) i (Some Idle) ≡ mark_in (slice_index bytes (MARKS_START + i))
   unfolding marks_read
   at-marks_read i l = get_or-map-range_with_len
       (λ (k : ℕ). mark_in (slice_index bytes (MARKS_START + k))) 0 n i i (Some Idle) l (omega arith)
 
+  -- they are n
   pub length-marks_in : length (marks_in n bytes) ≡ n
   length-marks_in = length-map (marks_read n bytes) counted ∙ length-marks_read
 
+  -- what it is to the rules of other statements
   pub at-marks_in : (i : ℕ) → i < n
       → at (marks_in n bytes) i ≡ counted (mark_in (slice_index bytes (MARKS_START + i)))
   at-marks_in i l = get_or-map counted (marks_read n bytes) i (Some Idle)
       ∙ ap counted (at-marks_read i l)
 
+  -- idle beyond the last
   pub marks_in_past : (i : ℕ) → n ≤ i → at (marks_in n bytes) i ≡ Idle
   marks_in_past i l = let m = length-marks_in in get_or_past (marks_in n bytes) i Idle (omega arith)
 

@@ -25,17 +25,19 @@ use Rattle.record.specs.Taking.{is_fixed_right, has_form, head_in, head_fault, m
 use Rattle.record.specs.Taking.{marks_fault, taking_by, taking_refusal, saved_in}
 use Rattle.record.proofs.Lists.{read_cut}
 
--- wrong at a place where the bytes have no choice, or of another length; and neither
+-- bytes that are wrong at a place where they have no choice have not the form
 pub misformed : (n : ℕ) (bytes : List ℕ) → is_fixed_right n bytes ≡ false → has_form n bytes ≡ false
 unfolding has_form
 misformed n bytes h = and_right (length bytes == RECORD_BYTES) (is_fixed_right n bytes) h
 
+-- bytes of another length have not the form
 pub misfit : (n : ℕ) (bytes : List ℕ) → (length bytes ≡ RECORD_BYTES → ⊥)
     → has_form n bytes ≡ false
 unfolding has_form
 misfit n bytes h = and_left (length bytes == RECORD_BYTES) (is_fixed_right n bytes)
     (ne_eqb (length bytes) RECORD_BYTES h)
 
+-- bytes of the right length that are right have it
 pub well_formed : (n : ℕ) (bytes : List ℕ) → length bytes ≡ RECORD_BYTES
     → is_fixed_right n bytes ≡ true → has_form n bytes ≡ true
 unfolding has_form

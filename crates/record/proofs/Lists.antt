@@ -17,14 +17,16 @@ pub marks_length : (ss : List Statement) (n : ℕ) → n ≡ length ss → lengt
 marks_length ss n e = length-map ss (λ (r : Statement). r.mark) ∙ sym e
 
 module _ (t : Table) where
-  -- as many kinds as statements, as many marks as kinds, and not above the most
+  -- as many kinds as statements
   pub kinds_many : length (table_kinds t) ≡ vec_len t.statements
   kinds_many = kinds_length (vec_items t.statements) (vec_len t.statements) t.statements.ok.0
 
+  -- as many marks as kinds
   pub marks_many : length (marks (vec_items t.statements)) ≡ length (table_kinds t)
   marks_many = marks_length (vec_items t.statements) (vec_len t.statements) t.statements.ok.0
       ∙ sym kinds_many
 
+  -- not above the most
   pub few_kinds : length (table_kinds t) ≤ MOST_STATEMENTS
   few_kinds = let m = kinds_many in let l = t.most in omega arith
 

@@ -14,6 +14,7 @@ use Rattle.record.proofs.Forms.{bytes_written}
 
 -- the byte at place i, by where it lies
 module _ (cs hs : List ℕ) (ms : List Mark) (i : ℕ) where
+  -- in the contents
   pub in_contents : i < HEAD_START → byte_at cs hs ms i ≡ get_or cs i 0
   in_contents l = sym (cond_below i HEAD_START _ _ l)
 
@@ -22,9 +23,11 @@ module _ (cs hs : List ℕ) (ms : List Mark) (i : ℕ) where
       (mark_byte (at ms (i - MARKS_START)))
   beyond_contents l = sym (cond_above i HEAD_START _ _ _ l refl)
 
+  -- in the head
   pub in_head : HEAD_START ≤ i → i < MARKS_START → byte_at cs hs ms i ≡ get_or hs (i - HEAD_START) 0
   in_head l b = beyond_contents l ∙ sym (cond_below i MARKS_START _ _ b)
 
+  -- from the marks on
   pub in_marks : MARKS_START ≤ i → byte_at cs hs ms i ≡ mark_byte (at ms (i - MARKS_START))
   in_marks l = beyond_contents (omega arith) ∙ sym (cond_above i MARKS_START _ _ _ l refl)
 
@@ -42,12 +45,14 @@ pub part_at : (bytes : List ℕ) (n p i : ℕ) → p ≤ i → i < p + n
 part_at bytes n p i l b =
     get_or-map-range_with_len (slice_index bytes) p n (i - p) i 0 (omega arith) (omega arith)
 
--- how long the record is, and its byte at place i
+-- the record that is written
 module _ (n : ℕ) (h : Head) (ms : List Mark) (m : length ms ≡ n) (few : n ≤ MOST_STATEMENTS) where
+  -- it has as many bytes as a record has
   pub length_written : length (written n h ms) ≡ RECORD_BYTES
   length_written = ap length (bytes_written n h ms m few)
       ∙ length-map-range_with_len (byte_at (contents n) (head_bytes h) ms) 0 RECORD_BYTES
 
+  -- its byte at place i
   pub byte_written : (i : ℕ) → i < RECORD_BYTES
       → get_or (written n h ms) i 0 ≡ byte_at (contents n) (head_bytes h) ms i
   byte_written i l = ap (λ bs. get_or bs i 0) (bytes_written n h ms m few)

@@ -240,6 +240,7 @@ module _ (gs : List SignalKind) (ks : List Kind) (h : Head) (ms : List Mark)
       (ap (λ ns. keeps (is_open h.phase) ks ns i) e ∙ legal.each i l)
       (λ o. ap (over (tree_at ks 0)) e ∙ finished o)
 
+  -- it is accepted
   pub is_taken : taking_refusal gs ks bs ≡ None
   is_taken =
       let e = head_read (length ks) h ms legal.many most closed steps word in

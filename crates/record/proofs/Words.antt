@@ -20,6 +20,7 @@ digit : (b : Bool) → cond b 1 0 ≤ 1
 digit true = omega arith
 digit false = omega arith
 
+-- a word of n bits is below 2 ^ n
 pub word_below : (P : ℕ → Bool) (n i : ℕ) → word_from P n i < 2 ^ n
 word_below P zero i = omega arith
 word_below P (suc n) i = omega (arith, word_below P n (i + 1), digit (P i), pow-suc 2 n)

@@ -48,7 +48,8 @@ loop-turn-preserved g c =
           c.front_after-front.ensures.from c.front_after-front.ensures.guard
           (quiet_after (signals_of s) (kinds_of s)
           (checked s.rows) s.rows.guards s.rows.waiters s.rows.guarded s.rows.awaited
-          (marks_in s.rows) (g.B.Board.present s.board) _ c.loop-turn.front.from c.loop-turn.front.guard c.in-Some.k
+          (marks_in s.rows) (g.B.Board.present s.board) _
+          c.loop-turn.front.from c.loop-turn.front.guard c.in-Some.k
           (many s.rows) i.quiet c.own_signal_present.ensures c.in-Some.ensures);
     }
 

@@ -1,47 +1,29 @@
-ghost use Rattle.std.specs.Prelude.{◌≡◌, ◌<◌, true, false, None, OnOk, slice_index_or};
-ghost use Rattle.routine.specs.View.{table_kinds, table_signals};
+ghost use Rattle.std.specs.Prelude.{◌≡◌, ◌+◌, ◌<◌, true, false, length, None, OnOk, IfOk, IfErr};
+ghost use Rattle.std.specs.Prelude.{slice_index_or};
+ghost use Rattle.signals.specs.Sets.{empty, word_set};
 ghost use Rattle.rules.specs.Rules.{over, ready};
 ghost use Rattle.rules.specs.Model.{outputs_of, status_of};
 ghost use Rattle.record.specs.Answers.{answer};
 ghost use Rattle.record.specs.Phases.{is_open};
-ghost use Rattle.count.specs.View.{marks_in, count_in, tree_in};
-ghost use Rattle.count.specs.Calls.{new_state, is_not_input, first_not_input, begin_refusal};
-ghost use Rattle.count.specs.Calls.{step_refusal, step_state, close_refusal, closing, close_state};
-ghost use Rattle.count.specs.Calls.{shown_out};
+ghost use Rattle.count.specs.View.{marks_in, tree_in};
+ghost use Rattle.count.specs.Calls.{is_not_input, first_not_input, begin_refusal, step_refusal};
+ghost use Rattle.count.specs.Calls.{step_state, close_refusal, closing, close_state, shown_out};
 ghost use Rattle.count.specs.CountView.{kinds_of, signals_of, state_of, SameRoutine, Begins, Steps};
 ghost use Rattle.count.specs.CountView.{Closes};
 
 use crate::answers::Closing;
 use crate::counts::Count;
-use crate::rows::Rows;
 use crate::words;
-use record::Phase;
-use routine::{Refusal, Routine, SignalKind};
+use record::{MOST_INSTANTS, Phase};
+use routine::{Refusal, SignalKind};
 use rules::Status;
-use signals::Board;
+use signals::{Board, SIGNALS};
 
+// An instant: it is begun, statements are stepped, and it is closed.
 impl<B: Board> Count<B> {
-    // A count at its start: statement 0 begun, all else idle, no signal present.
-    pub fn new(routine: Routine, mut board: B) -> Count<B>
-        ensures kinds { kinds_of result ≡ table_kinds routine.table }
-        ensures signals { signals_of result ≡ table_signals routine.table }
-        ensures state { state_of B.present result ≡ new_state (table_kinds routine.table) }
-    {
-        board.wipe();
-        let mut rows = Rows::new(routine);
-        rows.idle(0);
-        rows.begin(0);
-        Count {
-            rows,
-            board,
-            phase: Phase::Resting,
-            closed: 0,
-            steps: 0,
-        }
-    }
-
+    // Is bit s of the word set, though signal s is no input?
     fn is_not_input(&self, word: u64, s: u8) -> bool
-        requires { s < 64 }
+        requires { s < SIGNALS }
         ensures { result ≡ is_not_input (signals_of self.now) word s }
     {
         words::has_bit(word, s)
@@ -55,9 +37,10 @@ impl<B: Board> Count<B> {
         (0..words::width(word)).find(|s| self.is_not_input(word, *s))
     }
 
+    // Why the instant may not be begun with that word.
     fn may_begin(&self, word: u64) -> Result<(), Refusal>
         ensures room { OnOk result
-            ((self.now.closed < 4294967295) × (is_open self.now.phase ≡ false)) }
+            ((self.now.closed < MOST_INSTANTS) × (is_open self.now.phase ≡ false)) }
         ensures inputs { OnOk result (first_not_input (signals_of self.now) word ≡ None) }
         ensures why { result ≡ answer
             (begin_refusal (signals_of self.now) (state_of B.present self.now) word) tt }
@@ -65,7 +48,7 @@ impl<B: Board> Count<B> {
         match self.phase {
             Phase::Open => Err(Refusal::AlreadyOpen),
             Phase::Over => Err(Refusal::AlreadyOver),
-            Phase::Resting if self.closed == u32::MAX => Err(Refusal::NoInstantLeft),
+            Phase::Resting if self.closed == MOST_INSTANTS => Err(Refusal::NoInstantLeft),
             Phase::Resting => match self.first_not_input(word) {
                 Some(s) => Err(Refusal::NotInput {
                     signal: usize::from(s),
@@ -75,9 +58,18 @@ impl<B: Board> Count<B> {
         }
     }
 
-    // Opens an instant with the input signals of the word.
+    /// Opens an instant with the input signals of the word: bit s is set where signal s is given.
+    ///
+    /// Refused by `AlreadyOpen` in an open instant, by `AlreadyOver` at the end of the routine, by
+    /// `NoInstantLeft` where [`MOST_INSTANTS`] are closed, and by `NotInput` where a set bit is no
+    /// input.
     pub fn begin(&mut self, word: u64) -> Result<(), Refusal>
-        ensures { Begins B.present self.old self.new word result }
+        ensures exact { Begins B.present self.old self.new word result }
+
+        ensures already_open { self.old.phase ≡ Phase.Open → result ≡ Err Refusal.AlreadyOpen }
+        ensures opens { OnOk result ((self.new.phase ≡ Phase.Open) × (self.new.steps ≡ 0)) }
+        ensures given { OnOk result (B.present self.new.board ≡ word_set word) }
+        ensures unchanged { IfErr result (λ _. self.new ≡ self.old) }
     {
         self.may_begin(word)?;
         words::show(&mut self.board, word);
@@ -86,6 +78,7 @@ impl<B: Board> Count<B> {
         Ok(())
     }
 
+    // Why statement k may not be stepped.
     fn may_step(&self, k: usize) -> Result<(), Refusal>
         ensures can { OnOk result
             ((is_open self.now.phase ≡ true)
@@ -122,9 +115,19 @@ impl<B: Board> Count<B> {
         self.steps = self.steps.saturating_add(1);
     }
 
-    // One step of a ready statement.
+    /// One step of statement k.
+    ///
+    /// Refused by `NotOpenToStep` outside an open instant, by `NoSuchStatement` where the routine
+    /// has no statement k, and by `NotReady` where it is not ready. The steps are counted up to
+    /// 65,535, and stay there.
     pub fn step(&mut self, k: usize) -> Result<(), Refusal>
-        ensures { Steps B.present self.old self.new k result }
+        ensures exact { Steps B.present self.old self.new k result }
+
+        ensures not_open { is_open self.old.phase ≡ false → result ≡ Err Refusal.NotOpenToStep }
+        ensures statement { OnOk result (k < length (kinds_of self.old)) }
+        ensures counted { OnOk result
+            (self.old.steps < u16.MAX → self.new.steps ≡ self.old.steps + 1) }
+        ensures unchanged { IfErr result (λ _. self.new ≡ self.old) }
     {
         self.may_step(k)?;
         self.act(k);
@@ -135,9 +138,10 @@ impl<B: Board> Count<B> {
     pub(crate) fn is_there(&self, s: usize) -> bool
         ensures { result ≡ slice_index_or (B.present self.now.board) s false }
     {
-        s < 64 && self.board.ask(s as u8)
+        s < SIGNALS && self.board.ask(s as u8)
     }
 
+    // Is it an output that is present?
     fn is_shown(&self, s: usize) -> bool
         ensures { result ≡ shown_out (signals_of self.now) (B.present self.now.board) s }
     {
@@ -163,6 +167,7 @@ impl<B: Board> Count<B> {
         }
     }
 
+    // Why the instant may not be closed.
     fn may_close(&self) -> Result<(), Refusal>
         ensures live { OnOk result (is_open self.now.phase ≡ true) }
         ensures why { result ≡ answer
@@ -201,9 +206,18 @@ impl<B: Board> Count<B> {
         closing
     }
 
-    // Ends the instant, where nothing is ready any more.
+    /// Ends the instant, and says what it came to.
+    ///
+    /// Refused by `NotOpenToClose` outside an open instant, and by `StillReady` where a statement
+    /// is ready.
     pub fn close(&mut self) -> Result<Closing, Refusal>
-        ensures { Closes B.present self.old self.new result }
+        ensures exact { Closes B.present self.old self.new result }
+
+        ensures not_open { is_open self.old.phase ≡ false → result ≡ Err Refusal.NotOpenToClose }
+        ensures numbered { IfOk result (λ closing. closing.instant ≡ self.old.closed + 1) }
+        ensures ended { OnOk result (is_open self.new.phase ≡ false) }
+        ensures wiped { OnOk result (B.present self.new.board ≡ empty) }
+        ensures unchanged { IfErr result (λ _. self.new ≡ self.old) }
     {
         self.may_close()?;
         Ok(self.end_instant())

@@ -1,6 +1,6 @@
 use Rattle.std.proofs.Common.{◌≡◌, subst, ◌∙◌, arith, refl}
 use Rattle.count.proofs.RowLists.{Filled, filled_none, filled_more, filled_all}
-use Rattle.count.proofs.rows.Rows.put_all.Goals as goal
+use Rattle.count.proofs.machine.Rows.put_all.Goals as goal
 
 pub loop-i-init : goal.loop-i-init
 loop-i-init c = filled_none _ _

@@ -5,7 +5,7 @@ use Rattle.record.proofs.Lists.{few_kinds}
 use Rattle.count.specs.CountView.{kinds_of, signals_of, state_of}
 use Rattle.count.proofs.TakenOver.{few_signals}
 use Rattle.count.proofs.Passing.{comes_back, is_accepted, sound_count}
-use Rattle.count.proofs.trips.change_board.Goals as goal
+use Rattle.count.proofs.board_changes.change_board.Goals as goal
 
 pub returns-clause-accepted : goal.returns-clause-accepted
 returns-clause-accepted g c =
@@ -26,4 +26,4 @@ returns-clause-state g c =
     (few_kinds d.rows.routine.table) (few_signals d.rows)
     (sound_count g.met.A.Board.size d (search rules) (search rules)) h.record
     (n.signals ∙ ap (λ (r : Routine). table_signals r.table) h.routine)
-    (n.kinds ∙ ap (λ (r : Routine). table_kinds r.table) h.routine) c.take_over.ensures.leaves
+    (n.kinds ∙ ap (λ (r : Routine). table_kinds r.table) h.routine) c.take_over.ensures.exact.leaves

@@ -1,7 +1,7 @@
 use Rattle.std.proofs.Common.{vec_items, refl, arith}
 use Rattle.count.proofs.RowLists.{kinds_kept, marks_set, formed_kept, passes_kept, guards_kept}
 use Rattle.count.proofs.RowLists.{waiters_kept}
-use Rattle.count.proofs.rows.Rows.put.Goals as goal
+use Rattle.count.proofs.machine.Rows.put.Goals as goal
 
 pub invariant_of-self : goal.invariant_of-self
 invariant_of-self c =

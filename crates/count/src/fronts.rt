@@ -1,9 +1,10 @@
 ghost use Rattle.std.specs.Prelude.{◌≡◌, max};
-ghost use Rattle.routine.specs.Kinds.{kinds, shape_at};
-ghost use Rattle.count.specs.Front.{entry, Guards, Waiters, front_after};
+ghost use Rattle.routine.specs.Kinds.{shape_at};
+ghost use Rattle.count.specs.Front.{entry, front_after};
+ghost use Rattle.count.specs.View.{kinds_in};
 
-use crate::guides::{guards_of, waiters_of};
-use routine::{Kind, Routine};
+use crate::machine::Rows;
+use routine::Kind;
 
 // Where the search for the lowest ready statement goes on: below `from` no statement's own rule
 // applies, but maybe that of `guard`.
@@ -13,32 +14,7 @@ pub(crate) struct Front {
     pub(crate) guard: usize,
 }
 
-// The statements of a routine with their marks, and what guides the search for the lowest ready
-// one: the plain inside of a count.
-#[derive(Debug, Drop)]
-pub(crate) struct Rows {
-    pub(crate) routine: Routine,
-    pub(crate) guards: [u8; 256],
-    pub(crate) waiters: [u8; 64],
-    ghost guarded: { Guards (kinds routine.table.statements.items) guards },
-    ghost awaited: { Waiters (kinds routine.table.statements.items) waiters },
-}
-
 impl Rows {
-    ghost use Rattle.count.specs.View.{kinds_in};
-
-    pub(crate) fn new(routine: Routine) -> Rows
-        ensures { result.routine ≡ routine }
-    {
-        let guards = guards_of(&routine);
-        let waiters = waiters_of(&routine);
-        Rows {
-            routine,
-            guards,
-            waiters,
-        }
-    }
-
     // The statement above i that its step can make ready; 0 where there is none, which costs a look
     // and no more.
     fn guard(&self, i: usize) -> usize
