@@ -1,5 +1,5 @@
 -- from one count to another by a record
-use Rattle.std.proofs.Common.{◌≡◌, ◌^◌, ◌<◌, ◌≤◌, List, ℕ, length, None, ap, ◌∙◌}
+use Rattle.std.proofs.Common.{◌≡◌, ℕ, ◌^◌, ◌<◌, ◌≤◌, List, length, ap, ◌∙◌}
 use Rattle.routine.specs.declared.kinds.Kind.{Kind}
 use Rattle.routine.specs.declared.kinds.SignalKind.{SignalKind}
 use Rattle.routine.specs.declared.tables.TheConstants.{MOST_SIGNALS, MOST_STATEMENTS}
@@ -46,10 +46,3 @@ comes_back gs hs ks ls s t u bytes n g sound written e f leaves =
     ∙ ap (λ b. after (taking_refusal gs ks b) t (state_in (length ks) b)) written
     ∙ ap (λ o. after o t (state_in (length ks) (record_of (length gs) (length ks) s))) back.0
     ∙ back.1
-
--- and the record is accepted
-pub is_accepted : (gs : List SignalKind) (ks : List Kind) (s : State) (bytes : List ℕ)
-    → length ks ≤ MOST_STATEMENTS → length gs ≤ MOST_SIGNALS → Sound gs ks s
-    → bytes ≡ record_of (length gs) (length ks) s → taking_refusal gs ks bytes ≡ None
-is_accepted gs ks s bytes n g sound written =
-    ap (taking_refusal gs ks) written ∙ (restored gs ks s n g sound).0

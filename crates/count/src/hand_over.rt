@@ -1,6 +1,7 @@
-ghost use Rattle.std.specs.Prelude.{◌≡◌, false, length, OnOk, IfErr, slice_index_or};
+ghost use Rattle.std.specs.Prelude.{◌≡◌, false, length, None, OnOk, IfErr, slice_index_or};
 ghost use Rattle.rules.specs.Model.{word_from};
 ghost use Rattle.record.specs.Record.{record_of, head_of};
+ghost use Rattle.record.specs.Taking.{taking_refusal};
 ghost use Rattle.count.specs.CountView.{kinds_of, signals_of, state_of, TakesOver};
 
 use crate::counts::Count;
@@ -56,13 +57,14 @@ impl<B: Board> Count<B> {
         }
     }
 
-    /// Writes the count's record to the place. It is never refused.
+    /// Writes the count's record to the place. No count of the routine refuses it.
     ///
     /// The count is used up, and its routine and its board are given back as they are.
     pub fn hand_over(self, place: &mut [u8; RECORD_BYTES]) -> Released<B>
         ensures record { place.new
             ≡ record_of (length (signals_of self)) (length (kinds_of self))
             (state_of B.present self) }
+        ensures accepted { taking_refusal (signals_of self) (kinds_of self) place.new ≡ None }
         ensures board { result.board ≡ self.board }
         ensures routine { result.routine ≡ self.rows.routine }
     {

@@ -4,17 +4,8 @@ use Rattle.routine.specs.View.{table_kinds, table_signals}
 use Rattle.record.proofs.Lists.{few_kinds}
 use Rattle.count.specs.CountView.{kinds_of, signals_of, state_of}
 use Rattle.count.proofs.TakenOver.{few_signals}
-use Rattle.count.proofs.Passing.{comes_back, is_accepted, sound_count}
+use Rattle.count.proofs.Passing.{comes_back, sound_count}
 use Rattle.count.proofs.board_changes.change_board.Goals as goal
-
-pub returns-clause-accepted : goal.returns-clause-accepted
-returns-clause-accepted g c =
-    let d = c.args.count in
-    let present = g.A.Board.present in
-    is_accepted (signals_of d) (kinds_of d) (state_of present d) _ (few_kinds d.rows.routine.table)
-    (few_signals d.rows)
-    (sound_count g.met.A.Board.size d (search rules)
-    (search rules)) c.hand_over-routine.ensures.record
 
 pub returns-clause-state : goal.returns-clause-state
 returns-clause-state g c =
