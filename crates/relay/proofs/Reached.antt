@@ -36,7 +36,8 @@ use Rattle.count.specs.Calls.{begin_state, step_refusal, step_state, close_refus
 use Rattle.count.specs.Calls.{react_state, new_state}
 use Rattle.count.specs.Machine.{kind_effect}
 use Rattle.count.proofs.Presence.{within_empty, within_step, within_word, fits_at}
-use Rattle.count.proofs.Sound.{never, same_phase, after_not_open, over_after, over_ended}
+use Rattle.count.proofs.OverEnded.{over_ended}
+use Rattle.count.proofs.Sound.{never, same_phase, after_not_open, over_after}
 use Rattle.relay.specs.Asked.{Asked, begin, step, close, react, take_over, of_bytes, OfBytes}
 use Rattle.relay.specs.History.{after_call, after_calls}
 use Rattle.relay.proofs.AcceptedCalls.{was_ready, none_ready, never_refused}
