@@ -2,6 +2,7 @@
 use Rattle.std.proofs.Common.{◌≡◌, ℕ, ◌+◌, ◌<◌, ◌≤◌, Bool, ◌⊎◌, inl, inr, refl, sym, ap, ◌∙◌, subst}
 use Rattle.std.proofs.Common.{List, [], ◌∷◌, ◌++◌, length, drop, get_or, append_assoc}
 use Rattle.std.proofs.Common.{Some, None, Ok, Err, Option, Result}
+use Rattle.std.specs.Prelude.{IfErr}
 use Rattle.std.proofs.lemmas.List.{append-nil, drop_more}
 use Rattle.routine.specs.declared.checked.Routine.{Routine}
 use Rattle.routine.specs.declared.kinds.SignalKind.{SignalKind}
@@ -113,6 +114,19 @@ pub not_loaded : {R : Type 0} (d : Result (List SignalKind × List Statement) Re
 not_loaded (Ok p) view e ws h = inl h
 not_loaded (Err f) view e ws h = inr (cc)
 
+-- its refusal is the definition's
+pub as_refused : {R Y : Type 0} (d : Result (List SignalKind × List Statement) Refusal)
+    (view : R → List SignalKind × List Statement) (e : Refusal)
+    (r : Result Y Refusal) → r ≡ Err e → AnswersOrMemory d view (Err e) → IfErr d (λ x. r ≡ Err x)
+as_refused (Ok p) view e r i h = tt
+as_refused (Err f) view e r i h = cc
+
+-- and a table that is loaded has none
+pub not_refused : {R : Type 0} (d : Result (List SignalKind × List Statement) Refusal)
+    (view : R → List SignalKind × List Statement) (x : R) (P : Refusal → Type 0)
+    → AnswersOrMemory d view (Ok x) → IfErr d P
+not_refused d view x P h = subst (λ r. IfErr r P) (sym (value_said d view x h)) tt
+
 -- a table is loaded as the same routine each time: c and d are counts of one, start of the other
 module _ {A B : Type 0} {F : Ghosts A} {G : Ghosts B} (table : List ℕ) (q r : Routine)
     (c d : Count A F) (start : Count B G)
@@ -124,13 +138,12 @@ module _ {A B : Type 0} {F : Ghosts A} {G : Ghosts B} (table : List ℕ) (q r : 
       let b = value_said (load_of table) routine_content r k in
       cc
 
-  pub same_kinds : kinds_of c ≡ table_kinds q.table → kinds_of start ≡ table_kinds r.table
-      → kinds_of start ≡ kinds_of d
-  same_kinds a b = b ∙ ap (λ t. kinds t.1) same ∙ sym a ∙ sym x.kinds
-
-  pub same_signals : signals_of c ≡ table_signals q.table → signals_of start ≡ table_signals r.table
-      → signals_of start ≡ signals_of d
-  same_signals a b = b ∙ ap (λ t. t.0) same ∙ sym a ∙ sym x.signals
+  -- so the other is a count of the routine that the one has gone on with
+  pub same_routine : kinds_of c ≡ table_kinds q.table → signals_of c ≡ table_signals q.table
+      → kinds_of start ≡ table_kinds r.table → signals_of start ≡ table_signals r.table
+      → (kinds_of start ≡ kinds_of d) × (signals_of start ≡ signals_of d)
+  same_routine a g b f =
+      (b ∙ ap (λ t. kinds t.1) same ∙ sym a ∙ sym x.kinds, f ∙ ap (λ t. t.0) same ∙ sym g ∙ sym x.signals)
 
 -- the record of a sound state says it
 pub says_it : (gs : List SignalKind) (ks : List Kind) (s : State) (bytes : List ℕ)

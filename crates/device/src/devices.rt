@@ -1,4 +1,5 @@
-ghost use Rattle.std.specs.Prelude.{◌≡◌, ◌++◌, length, None, vec_items};
+ghost use Rattle.std.specs.Prelude.{◌≡◌, ◌++◌, length, None, Err, IfErr, vec_items};
+ghost use Rattle.routine.specs.View.{load_of};
 ghost use Rattle.record.specs.Taking.{taking_refusal, state_in};
 ghost use Rattle.count.specs.CountView.{kinds_of, signals_of, state_of};
 ghost use Rattle.device.specs.Closings.{ReactsAll, by_one, IsOrMemory};
@@ -43,7 +44,8 @@ pub fn react_on_two<A: Board + Drop, B: Board + Drop>(
     before: &[u64],
     later: &[u64],
 ) -> Result<Vec<Closing>, Refusal>
-    ensures { IsOrMemory (by_one table.now (before.now ++ later.now)) vec_items result }
+    ensures answers { IsOrMemory (by_one table.now (before.now ++ later.now)) vec_items result }
+    ensures refused { IfErr (load_of table.now) (λ e. result ≡ Err e) }
 {
     let (first, second) = boards;
     let mut closings = Vec::new(heap);

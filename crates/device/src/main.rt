@@ -3,7 +3,9 @@
 
 mod devices;
 
+use anyhow::bail;
 use devices::react_on_two;
+use routine::Refusal;
 use signals::{BitBoard, StampBoard};
 
 /// loop(sequence(wait 0, sequence(emit 1, stop))): signal 0 is an input, signal 1 an output.
@@ -18,9 +20,23 @@ const TABLE: [u8; 34] = [
     1, 0, 0, 0, // 5 stop
 ];
 
+/// What somebody with the device in hand can do about a refusal, by the layer that refuses.
+fn advice(refusal: &Refusal) -> &'static str {
+    match refusal.layer() {
+        Some(1 | 2) => "get the routine again",
+        Some(3) => "give another word",
+        Some(4) => "get the record again",
+        _ => "wait until there is memory",
+    }
+}
+
 fn main(rt: HostRuntime) -> anyhow::Result<()> {
     let boards = (BitBoard::new(), StampBoard::new());
-    for closing in react_on_two(rt.alloc(), &TABLE, boards, &[0, 1], &[1, 0])? {
+    let closings = match react_on_two(rt.alloc(), &TABLE, boards, &[0, 1], &[1, 0]) {
+        Ok(closings) => closings,
+        Err(refusal) => bail!("{refusal}: {}", advice(&refusal)),
+    };
+    for closing in closings {
         println!(rt; "{closing}")?;
     }
     Ok(())
