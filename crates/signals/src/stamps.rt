@@ -9,9 +9,10 @@ use super::board::{Board, SIGNALS};
 // The last stamp that 32 bits hold.
 const LAST_STAMP: u32 = u32::MAX;
 
-/// A board with a stamp for each signal: signal k is present where its stamp is the current one. A
-/// wipe goes on to the next stamp, which no signal has. After the last stamp it sets all stamps to 0
-/// and begins again with 1. No `impl Model`: the contracts speak of the stamps.
+/// A board with a stamp for each signal: signal k is present where its stamp is the current one.
+/// A wipe goes on to the next stamp, which no signal has. After the last stamp it sets all stamps
+/// to 0 and begins again with 1.
+// No `impl Model`: the contracts speak of the stamps.
 #[derive(Debug, Drop)]
 pub struct StampBoard {
     pub(crate) stamps: [u32; SIGNALS],
