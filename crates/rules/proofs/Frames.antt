@@ -1,19 +1,17 @@
--- what a writer leaves as it is
-use Rattle.std.proofs.Common.{◌≡◌, ℕ, ◌<◌, List, length, set, sym, refl, ap, ◌∙◌, subst, inl, inr}
-use Rattle.std.proofs.Common.{arith, length-set, get_or-set_other, get_or-set_same}
-use Rattle.rules.proofs.MarkedTrees.{Mark, Idle, Waiting, UnderWay}
-use Rattle.rules.proofs.MarkedTrees.{mleaf, begin, rest, begun as first}
-use Rattle.rules.proofs.ByNumber.{Has, Distinct}
-use Rattle.rules.proofs.ByNumber.{over as over_t}
-use Rattle.rules.proofs.Shapes.{Tree, leaf, one, two, blank, at, marked, begun, idled, over}
+-- what a writer of marks leaves as it is
+use Rattle.std.proofs.Common.{ℕ, List, length, ◌≡◌, set, length-set, get_or-set_other, subst, sym}
+use Rattle.std.proofs.Common.{arith, ap, refl, inl, inr, ◌<◌, get_or-set_same, ◌∙◌}
+use Rattle.routine.proofs.Once.{Distinct}
+use Rattle.routine.proofs.Trees.{In}
+use Rattle.rules.specs.Rules.{Mark, at, Idle, Tree, begun, leaf, one, UnderWay, Waiting, two, idled}
+use Rattle.rules.specs.Rules.{leaf_begun, over}
+use Rattle.rules.proofs.MarkedTrees.{mleaf, begin, rest, is_over}
+use Rattle.rules.proofs.MarksIntoTrees.{marked, blank}
 
 -- ns has the marks of ms but at numbers of which P holds
 pub record Kept (P : ℕ → Type 0) (ms ns : List Mark) : Type 0 where
   pub length : length ns ≡ length ms
   pub other : (i : ℕ) → ¬ (P i) → at ns i ≡ at ms i
-
-abbrev pub In : Tree → ℕ → Type 0
-In t i = Has (blank t) i
 
 pub kept_set : (P : ℕ → Type 0) (ms : List Mark) (n : ℕ) (m : Mark) → P n → Kept P ms (set ms n m)
 kept_set P ms n m h = record {
@@ -64,10 +62,10 @@ module _ (N : ℕ) where
   abbrev pub Fits : Tree → Type 0
   Fits t = (i : ℕ) → In t i → i < N
 
-  pub begun_same : (t : Tree) (ms : List Mark) → Distinct (blank t) → Fits t → length ms ≡ N
+  pub begun_same : (t : Tree) (ms : List Mark) → Distinct t → Fits t → length ms ≡ N
       → marked t (begun t ms) ≡ begin (marked t ms)
   begun_same (leaf n k) ms d f e =
-      ap (mleaf n k) (get_or-set_same ms n (first k) Idle (let a = f n refl in omega arith))
+      ap (mleaf n k) (get_or-set_same ms n (leaf_begun k) Idle (let a = f n refl in omega arith))
   begun_same (one n k p) ms d f e =
       let l : n < length ms = let a = f n (inl refl) in omega arith in
       let a = λ (m : Mark). get_or-set_same ms n m Idle l in
@@ -91,7 +89,7 @@ module _ (N : ℕ) where
       let u' = unseen p (begun p ns) (begun q (begun p ns)) (begun_kept q (begun p ns)) d.2 in
       grind arith
 
-  pub idled_same : (t : Tree) (ms : List Mark) → Distinct (blank t) → Fits t → length ms ≡ N
+  pub idled_same : (t : Tree) (ms : List Mark) → Distinct t → Fits t → length ms ≡ N
       → marked t (idled t ms) ≡ rest (marked t ms)
   idled_same (leaf n k) ms d f e =
       ap (mleaf n k) (get_or-set_same ms n Idle Idle (let a = f n refl in omega arith))
@@ -116,7 +114,7 @@ module _ (N : ℕ) where
       let u' = unseen p (idled p ns) (idled q (idled p ns)) (idled_kept q (idled p ns)) d.2 in
       cc
 
-pub over_same : (t : Tree) (ms : List Mark) → over t ms ≡ over_t (marked t ms)
+pub over_same : (t : Tree) (ms : List Mark) → over t ms ≡ is_over (marked t ms)
 over_same (leaf n k) ms = refl
 over_same (one n k p) ms = refl
 over_same (two n k p q) ms = let a = over_same p ms in let b = over_same q ms in cc

@@ -1,11 +1,12 @@
 -- a statement's rule looks at the marks of its own tree alone; where all of that is idle no rule
 -- applies
-use Rattle.std.proofs.Common.{◌≡◌, ℕ, zero, suc, Bool, false, ◌||◌, ◌⊎◌, List, [], ◌∷◌, set, get_or}
-use Rattle.std.proofs.Common.{refl, sym, ap, ◌∙◌, subst, ap₂, inl, inr, arith}
-use Rattle.rules.specs.Rules.{Mark, Idle, Signals, Leaf, One, Two, Tree, leaf, one, two, at}
-use Rattle.rules.specs.Rules.{is_done, idled, over, two_over, leaf_rule, one_rule, two_rule, rule}
-use Rattle.rules.proofs.Frames.{In, idled_kept}
-use Rattle.rules.proofs.Steps.{In-dec}
+use Rattle.std.proofs.Common.{List, ℕ, get_or, set, ◌≡◌, [], zero, arith, suc, ◌∷◌, subst, sym, inl}
+use Rattle.std.proofs.Common.{inr, ◌∙◌, ◌⊎◌, false, ap, refl, Bool, ◌||◌, ap₂}
+use Rattle.routine.proofs.Trees.{In}
+use Rattle.rules.specs.Rules.{Tree, Mark, at, idled, Idle, leaf, one, two, over, is_done, Two}
+use Rattle.rules.specs.Rules.{two_over, Signals, rule, Leaf, leaf_rule, One, one_rule, two_rule}
+use Rattle.rules.proofs.Frames.{idled_kept}
+use Rattle.rules.proofs.StepsAtPositions.{In-dec}
 
 -- what is set to the default is the default there, also past the end
 pub set_default : {A : Type 0} (d : A) (xs : List A) (n : ℕ) → get_or (set xs n d) n d ≡ d

@@ -1,10 +1,10 @@
--- the language: statement trees that carry their marks
-use Rattle.std.proofs.Common.{◌≡◌, ℕ, Bool, true, false, ◌⊎◌, get_or, refl}
-pub use Rattle.rules.specs.Rules.{Mark, Idle, Waiting, UnderWay, Done, Leaf, nothing, stop, emit}
-pub use Rattle.rules.specs.Rules.{wait, One, loop, kill, local, Two, sequence, parallel, when}
-pub use Rattle.rules.specs.Rules.{Signals, Effect, no_effect, raises, drops, leaf_effect}
-pub use Rattle.rules.specs.Rules.{one_effect, apply, is_live, leaf_begun as begun}
-pub use Rattle.rules.specs.Legal.{leaf_legal, one_legal, two_legal}
+-- the rules on statement trees that carry their marks: a step is told by its position
+use Rattle.std.proofs.Common.{ℕ, ◌⊎◌, Bool, ◌||◌, get_or, false, ◌≡◌, true}
+use Rattle.rules.specs.Legal.{leaf_legal, one_legal, two_legal}
+use Rattle.rules.specs.Rules.{Leaf, Mark, One, Two, leaf_begun, loop, Waiting, kill, UnderWay}
+use Rattle.rules.specs.Rules.{local, sequence, parallel, when, Idle, Done, is_done, two_over}
+use Rattle.rules.specs.Rules.{Signals, nothing, stop, emit, wait, Effect, leaf_effect, no_effect}
+use Rattle.rules.specs.Rules.{one_effect, is_live}
 
 pub data Marked : Type 0 where
   mleaf : ℕ → Leaf → Mark → Marked
@@ -15,10 +15,9 @@ pub data Marked : Type 0 where
 pub data Pos : Type 0 where
   here : Pos
   left right : Pos → Pos
-  deriving Discrete as Pos-discrete
 
 abbrev pub begin : Marked → Marked
-begin (mleaf n k m) = mleaf n k (begun k)
+begin (mleaf n k m) = mleaf n k (leaf_begun k)
 begin (mone n loop m p) = mone n loop Waiting p
 begin (mone n (kill s) m p) = mone n (kill s) UnderWay (begin p)
 begin (mone n (local s) m p) = mone n (local s) Waiting (begin p)
@@ -43,6 +42,12 @@ Over (mone n k m p) = IsDone m
 Over (mtwo n sequence m p q) = Over q
 Over (mtwo n parallel m p q) = Over p × Over q
 Over (mtwo n (when s) m p q) = Over p ⊎ Over q
+
+-- the same as a test
+abbrev pub is_over : Marked → Bool
+is_over (mleaf n k m) = is_done m
+is_over (mone n k m p) = is_done m
+is_over (mtwo n k m p q) = is_done m || two_over k (is_over p) (is_over q)
 
 abbrev pub Present : Signals → ℕ → Type 0
 Present e s = get_or e s false ≡ true
@@ -84,16 +89,16 @@ Opened Waiting (local s) = ⊥
 Opened UnderWay k = Unit {0}
 Opened Done k = Unit {0}
 
-abbrev pub Ready : Signals → Marked → Pos → Type 0
-Ready e (mleaf n k m) here = ReadyLeaf e m k
-Ready e (mleaf n k m) (left x) = ⊥
-Ready e (mleaf n k m) (right x) = ⊥
-Ready e (mone n k m p) here = ReadyOne m k p
-Ready e (mone n k m p) (left x) = Opened m k × Ready e p x
-Ready e (mone n k m p) (right x) = ⊥
-Ready e (mtwo n k m p q) here = ReadyTwo e m k p
-Ready e (mtwo n k m p q) (left x) = Ready e p x
-Ready e (mtwo n k m p q) (right x) = Ready e q x
+abbrev pub ReadyAt : Signals → Marked → Pos → Type 0
+ReadyAt e (mleaf n k m) here = ReadyLeaf e m k
+ReadyAt e (mleaf n k m) (left x) = ⊥
+ReadyAt e (mleaf n k m) (right x) = ⊥
+ReadyAt e (mone n k m p) here = ReadyOne m k p
+ReadyAt e (mone n k m p) (left x) = Opened m k × ReadyAt e p x
+ReadyAt e (mone n k m p) (right x) = ⊥
+ReadyAt e (mtwo n k m p q) here = ReadyTwo e m k p
+ReadyAt e (mtwo n k m p q) (left x) = ReadyAt e p x
+ReadyAt e (mtwo n k m p q) (right x) = ReadyAt e q x
 
 abbrev pub after_one : ℕ → Mark → One → Marked → Marked
 after_one n Idle k p = mone n k Idle p
@@ -121,26 +126,26 @@ after (mtwo n k m p q) here = after_two n m k p q
 after (mtwo n k m p q) (left x) = mtwo n k m (after p x) q
 after (mtwo n k m p q) (right x) = mtwo n k m p (after q x)
 
-abbrev pub eff : Marked → Pos → Effect
-eff (mleaf n k m) here = leaf_effect k
-eff (mleaf n k m) (left x) = no_effect
-eff (mleaf n k m) (right x) = no_effect
-eff (mone n k m p) here = one_effect k
-eff (mone n k m p) (left x) = eff p x
-eff (mone n k m p) (right x) = no_effect
-eff (mtwo n k m p q) here = no_effect
-eff (mtwo n k m p q) (left x) = eff p x
-eff (mtwo n k m p q) (right x) = eff q x
+abbrev pub effect_at : Marked → Pos → Effect
+effect_at (mleaf n k m) here = leaf_effect k
+effect_at (mleaf n k m) (left x) = no_effect
+effect_at (mleaf n k m) (right x) = no_effect
+effect_at (mone n k m p) here = one_effect k
+effect_at (mone n k m p) (left x) = effect_at p x
+effect_at (mone n k m p) (right x) = no_effect
+effect_at (mtwo n k m p q) here = no_effect
+effect_at (mtwo n k m p q) (left x) = effect_at p x
+effect_at (mtwo n k m p q) (right x) = effect_at q x
 
 abbrev pub live : Marked → Bool
 live (mleaf n k m) = is_live m
 live (mone n k m p) = is_live m
 live (mtwo n k m p q) = is_live m
 
-abbrev pub Legal : Marked → Type 0
-Legal (mleaf n k m) = leaf_legal m k ≡ true
-Legal (mone n k m p) = (one_legal m k (live p) ≡ true) × Legal p
-Legal (mtwo n k m p q) = (two_legal m k (live p) (live q) ≡ true) × Legal p × Legal q
+abbrev pub LegalTree : Marked → Type 0
+LegalTree (mleaf n k m) = leaf_legal m k ≡ true
+LegalTree (mone n k m p) = (one_legal m k (live p) ≡ true) × LegalTree p
+LegalTree (mtwo n k m p q) = (two_legal m k (live p) (live q) ≡ true) × LegalTree p × LegalTree q
 
 -- scopes: what a tree binds, and what it names
 abbrev pub BindsOne : One → ℕ → Type 0
@@ -181,40 +186,3 @@ Scoped (mone n k m p) = ((s : ℕ) → Binds p s → ¬ (NamesOne k s)) × Scope
 Scoped (mtwo n k m p q) =
     ((s : ℕ) → Binds p s → ¬ (NamesTwo k s ⊎ Names q s))
     × ((s : ℕ) → Binds q s → ¬ (NamesTwo k s ⊎ Names p s)) × Scoped p × Scoped q
-
--- the whole state
-abbrev pub State : Type 0
-State = Marked × Signals
-
-abbrev pub Can : State → Pos → Type 0
-Can s x = Ready s.1 s.0 x
-
-abbrev pub next : State → Pos → State
-next s x = (after s.0 x, apply (eff s.0 x) s.1)
-
--- scopes are a matter of the tree without its marks
-abbrev pub Fine : State → Type 0
-Fine s = Legal s.0 × Scoped (rest s.0)
-
--- the number of the statement at a position (a position outside the tree: 0)
-abbrev pub number : Marked → Pos → ℕ
-number (mleaf n k m) here = n
-number (mleaf n k m) (left x) = 0
-number (mleaf n k m) (right x) = 0
-number (mone n k m p) here = n
-number (mone n k m p) (left x) = number p x
-number (mone n k m p) (right x) = 0
-number (mtwo n k m p q) here = n
-number (mtwo n k m p q) (left x) = number p x
-number (mtwo n k m p q) (right x) = number q x
-
-pub number_rest : (t : Marked) (x : Pos) → number (rest t) x ≡ number t x
-number_rest (mleaf n k m) here = refl
-number_rest (mleaf n k m) (left x) = refl
-number_rest (mleaf n k m) (right x) = refl
-number_rest (mone n k m p) here = refl
-number_rest (mone n k m p) (left x) = number_rest p x
-number_rest (mone n k m p) (right x) = refl
-number_rest (mtwo n k m p q) here = refl
-number_rest (mtwo n k m p q) (left x) = number_rest p x
-number_rest (mtwo n k m p q) (right x) = number_rest q x

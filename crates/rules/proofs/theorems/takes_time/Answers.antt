@@ -1,5 +1,5 @@
 use Rattle.routine.specs.View.{table_signals, table_kinds}
-use Rattle.rules.proofs.Checked.{of_routine}
+use Rattle.rules.proofs.TestsPassed.{of_routine}
 use Rattle.rules.proofs.TakesTime.{what_takes_time}
 use Rattle.rules.proofs.theorems.takes_time.Goals as goal
 

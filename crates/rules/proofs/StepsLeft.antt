@@ -1,15 +1,13 @@
--- how many steps an instant can still take
-use Rattle.std.proofs.Common.{◌≡◌, ℕ, ◌+◌, ◌*◌, ◌≤◌, Bool, true, false, cond, ◌&&◌, ◌||◌, List}
-use Rattle.std.proofs.Common.{length}
-use Rattle.rules.specs.Runs.{Run}
-use Rattle.rules.proofs.MarkedTrees.{Mark, Idle, Waiting, UnderWay, Done, Leaf, nothing, stop, emit}
-use Rattle.rules.proofs.MarkedTrees.{wait, One, loop, kill, local, Two, sequence, parallel, when}
-use Rattle.rules.proofs.MarkedTrees.{Marked, mleaf, mone, mtwo, Pos, rest, State, Can, next, Fine}
+-- how many steps an instant can still take, as the marks of a tree stand
+use Rattle.std.proofs.Common.{ℕ, ◌+◌, Bool, true, false, ◌&&◌, cond, ◌||◌, ◌≡◌}
+use Rattle.rules.specs.Rules.{Leaf, nothing, stop, emit, wait, One, loop, kill, local, Two}
+use Rattle.rules.specs.Rules.{sequence, parallel, when, Mark, Idle, Waiting, UnderWay, Done}
+use Rattle.rules.proofs.MarkedTrees.{Marked, mleaf, mone, mtwo}
 
-abbrev pub size : Marked → ℕ
-size (mleaf n k m) = 1
-size (mone n k m p) = 1 + size p
-size (mtwo n k m p q) = 1 + size p + size q
+abbrev pub node_count : Marked → ℕ
+node_count (mleaf n k m) = 1
+node_count (mone n k m p) = 1 + node_count p
+node_count (mtwo n k m p q) = 1 + node_count p + node_count q
 
 -- of a fresh tree: its most steps, and whether it can end at once
 abbrev pub most_leaf : Leaf → ℕ
@@ -121,8 +119,3 @@ abbrev pub Turns : Marked → Type 0
 Turns (mleaf n k m) = Unit {0}
 Turns (mone n k m p) = Loops k (ends p) × Turns p
 Turns (mtwo n k m p q) = Turns p × Turns q
-
-abbrev pub InstantEnds : Type 0
-InstantEnds =
-    (s z : State) (w : List Pos) → Fine s → Turns (rest s.0) → Run Can next s w z
-    → length w + steps_left z.0 ≤ 4 * size s.0

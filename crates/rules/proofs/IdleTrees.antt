@@ -1,7 +1,8 @@
--- a tree that is all idle
-use Rattle.std.proofs.Common.{◌≡◌, ℕ, zero, suc, replicate, refl, ap}
-use Rattle.rules.proofs.MarkedTrees.{Idle, mleaf}
-use Rattle.rules.proofs.Shapes.{Tree, leaf, one, two, blank, marked, at}
+-- where all marks are idle
+use Rattle.std.proofs.Common.{ℕ, replicate, ◌≡◌, zero, refl, suc, ap}
+use Rattle.rules.specs.Rules.{at, Idle, Tree, leaf, one, two}
+use Rattle.rules.proofs.MarkedTrees.{mleaf}
+use Rattle.rules.proofs.MarksIntoTrees.{marked, blank}
 
 pub all_idle : (n i : ℕ) → at (replicate n Idle) i ≡ Idle
 all_idle zero i = refl

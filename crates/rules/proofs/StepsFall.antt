@@ -1,15 +1,33 @@
-use Rattle.std.proofs.Common.{◌≡◌, ℕ, ◌+◌, ◌*◌, ◌<◌, ◌≤◌, Bool, true, false, cond, not, ◌⊎◌, List}
-use Rattle.std.proofs.Common.{length, sym, refl, ap, ◌∙◌, subst, ap₂, inl, inr, arith}
-use Rattle.rules.specs.Runs.{Run, still, then}
-use Rattle.rules.proofs.MarkedTrees.{Mark, Idle, Waiting, UnderWay, Done, One, Two, sequence}
-use Rattle.rules.proofs.MarkedTrees.{parallel, when}
-use Rattle.rules.proofs.MarkedTrees.{Marked, mleaf, mone, mtwo, Pos, here, left, right, begin, rest}
-use Rattle.rules.proofs.MarkedTrees.{Over, Signals, Ready, ReadyOne, ReadyTwo, Opened}
-use Rattle.rules.proofs.MarkedTrees.{after, after_one, after_two, Legal, live, is_live, one_legal}
-use Rattle.rules.proofs.MarkedTrees.{two_legal, State, Can, next, Fine}
-use Rattle.rules.proofs.Potential.{size, most, ends, may, steps_left, Turns, Loops, InstantEnds}
-use Rattle.rules.proofs.Potential.{ends_one, ends_two, most_one, most_two, may_two}
-use Rattle.rules.proofs.Diamonds.{idle_quiet, idle_not_over, rest_legal, rest_after, diamond}
+-- each step lets the steps that are left fall, from at most 4 for each statement
+use Rattle.std.proofs.Common.{◌≡◌, refl, arith, ap, ◌+◌, ap₂, sym, ◌∙◌, false, Bool, true, ◌≤◌, ℕ}
+use Rattle.std.proofs.Common.{◌<◌, subst, ◌*◌, cond, not, ◌⊎◌, inl, inr}
+use Rattle.rules.specs.Legal.{one_legal, two_legal}
+use Rattle.rules.specs.Rules.{Mark, One, is_live, Two, Signals, sequence, parallel, when, UnderWay}
+use Rattle.rules.specs.Rules.{Idle, Waiting, Done}
+use Rattle.rules.proofs.MarkedTrees.{Marked, rest, mleaf, mone, mtwo, begin, Pos, after, live}
+use Rattle.rules.proofs.MarkedTrees.{LegalTree, Over, ReadyOne, after_one, Opened, ReadyTwo}
+use Rattle.rules.proofs.MarkedTrees.{after_two, ReadyAt, here, left, right}
+use Rattle.rules.proofs.QuietInside.{idle_not_over, idle_quiet}
+use Rattle.rules.proofs.LegalTrees.{rest_legal}
+use Rattle.rules.proofs.StepsLeft.{most, most_one, most_two, ends, ends_one, ends_two, steps_left}
+use Rattle.rules.proofs.StepsLeft.{may, may_two, Loops, Turns, node_count}
+
+-- what has nothing to do with marks stays
+rest_rest : (t : Marked) → rest (rest t) ≡ rest t
+rest_rest (mleaf n k m) = refl
+rest_rest (mone n k m p) = let h = rest_rest p in cc
+rest_rest (mtwo n k m p q) = let h = rest_rest p in let g = rest_rest q in cc
+
+rest_begin : (t : Marked) → rest (begin t) ≡ rest t
+rest_begin (mleaf n k m) = refl
+rest_begin (mone n k m p) = let h = rest_begin p in grind arith
+rest_begin (mtwo n k m p q) = let h = rest_begin p in let g = rest_begin q in grind arith
+
+pub rest_after : (t : Marked) (x : Pos) → rest (after t x) ≡ rest t
+rest_after (mleaf n k m) x = grind arith
+rest_after (mone n k m p) x = let h = rest_after p in grind (arith, rest_rest, rest_begin)
+rest_after (mtwo n k m p q) x = let h = rest_after p in let g = rest_after q in
+    grind (arith, rest_rest, rest_begin)
 
 -- most and ends have nothing to do with marks
 most_rest : (t : Marked) → most (rest t) ≡ most t
@@ -59,7 +77,7 @@ two_fresh : (n : ℕ) (k : Two) (m : Mark) (p q : Marked) → steps_left q ≡ 0
     → Fresh q → Fresh (mtwo n k m p q)
 two_fresh n k m p q i j f g = grind arith
 
-pub fresh : (t : Marked) → Legal t → live t ≡ false → Fresh t
+pub fresh : (t : Marked) → LegalTree t → live t ≡ false → Fresh t
 fresh (mleaf n k m) l b = grind arith
 fresh (mone n k m p) l b = one_fresh n k m p (fresh p l.1 (idle_one m k (live p) l.0 b))
 fresh (mtwo n k m p q) l b =
@@ -67,13 +85,13 @@ fresh (mtwo n k m p q) l b =
     two_fresh n k m p q (idle_left q u.1) (idle_may q u.1) (fresh p l.1 u.0) (fresh q l.2 u.1)
 
 two_may : (m : Mark) (k : Two) (p q : Marked) (f g : Bool) → two_legal m k (live p) (live q) ≡ true
-    → Legal p → Legal q → (Over p → may p ≡ true) → (Over q → may q ≡ true)
+    → LegalTree p → LegalTree q → (Over p → may p ≡ true) → (Over q → may q ≡ true)
     → (n : ℕ) → Over (mtwo n k m p q) → may_two m k (may p) (may q) f g ≡ true
 two_may m k p q f g o l l' h h' n w =
     let i = idle_may p in let j = idle_not_over p in let k = idle_not_over q in
     grind arith
 
-pub over_may : (t : Marked) → Legal t → Over t → may t ≡ true
+pub over_may : (t : Marked) → LegalTree t → Over t → may t ≡ true
 over_may (mleaf n k m) l o = grind arith
 over_may (mone n k m p) l o = grind arith
 over_may (mtwo n k m p q) l o =
@@ -119,13 +137,13 @@ two_right n parallel m p q u o b i a c f = grind arith
 two_right n (when s) m p q u o b i a c f = grind arith
 
 module _ (e : Signals) where
-  ready_live : (t : Marked) → Legal t → (x : Pos) → Ready e t x → live t ≡ true
+  ready_live : (t : Marked) → LegalTree t → (x : Pos) → ReadyAt e t x → live t ≡ true
   ready_live t l x r = let h = idle_quiet e t l in at (live t) (λ b. h b x r)
     where
       at : (b : Bool) → ¬ (b ≡ false) → b ≡ true
       at b d = grind arith
 
-  pub falls : (t : Marked) → Legal t → Turns (rest t) → (x : Pos) → Ready e t x
+  pub falls : (t : Marked) → LegalTree t → Turns (rest t) → (x : Pos) → ReadyAt e t x
       → Falls t (after t x)
   falls (mleaf n k m) l c x r = grind arith
   falls (mone n k m p) l c here r =
@@ -147,16 +165,16 @@ module _ (e : Signals) where
       (ends_after q x) (falls q l.2 c.1 x r)
 
 -- the bounds
-most_size : (t : Marked) → most t ≤ 2 * size t
-most_size (mleaf n k m) = grind arith
-most_size (mone n k m p) = let h = most_size p in grind arith
-most_size (mtwo n k m p q) = let h = most_size p in let g = most_size q in grind arith
+most_count : (t : Marked) → most t ≤ 2 * node_count t
+most_count (mleaf n k m) = grind arith
+most_count (mone n k m p) = let h = most_count p in grind arith
+most_count (mtwo n k m p q) = let h = most_count p in let g = most_count q in grind arith
 
-record Bounded (t : Marked) : Type 0 where
-  always : steps_left t ≤ 4 * size t
-  ending : may t ≡ true → steps_left t ≤ 2 * size t
+pub record Bounded (t : Marked) : Type 0 where
+  pub always : steps_left t ≤ 4 * node_count t
+  pub ending : may t ≡ true → steps_left t ≤ 2 * node_count t
 
-one_bounded : (n : ℕ) (k : One) (m : Mark) (p : Marked) → most p ≤ 2 * size p → Bounded p
+one_bounded : (n : ℕ) (k : One) (m : Mark) (p : Marked) → most p ≤ 2 * node_count p → Bounded p
     → Bounded (mone n k m p)
 one_bounded n k m p c h = grind arith
 
@@ -164,7 +182,7 @@ which : (b c : Bool) → cond b (not c) c ≡ true → (c ≡ false) ⊎ (b ≡ 
 which true c h = inl (grind arith)
 which false c h = inr refl
 
-seq_1 : (n : ℕ) (p q : Marked) → (steps_left q ≡ 0) × (may q ≡ false) → most q ≤ 2 * size q
+seq_1 : (n : ℕ) (p q : Marked) → (steps_left q ≡ 0) × (may q ≡ false) → most q ≤ 2 * node_count q
     → Bounded p → Bounded (mtwo n sequence UnderWay p q)
 seq_1 n p q w b h = grind arith
 
@@ -173,7 +191,7 @@ seq_2 : (n : ℕ) (p q : Marked) → (steps_left p ≡ 0) × (may p ≡ false) �
 seq_2 n p q w g = grind arith
 
 two_bounded : (n : ℕ) (k : Two) (m : Mark) (p q : Marked) → two_legal m k (live p) (live q) ≡ true
-    → most p ≤ 2 * size p → most q ≤ 2 * size q
+    → most p ≤ 2 * node_count p → most q ≤ 2 * node_count q
     → (live p ≡ false → (steps_left p ≡ 0) × (may p ≡ false))
     → (live q ≡ false → (steps_left q ≡ 0) × (may q ≡ false))
     → Bounded p → Bounded q → Bounded (mtwo n k m p q)
@@ -189,22 +207,11 @@ two_bounded n sequence Done p q o a b i j h g = grind arith
 two_bounded n parallel m p q o a b i j h g = grind arith
 two_bounded n (when s) m p q o a b i j h g = grind arith
 
-bounded : (t : Marked) → Legal t → Bounded t
+-- no more than 4 steps are left for each statement
+pub bounded : (t : Marked) → LegalTree t → Bounded t
 bounded (mleaf n k m) l = grind arith
-bounded (mone n k m p) l = one_bounded n k m p (most_size p) (bounded p l.1)
+bounded (mone n k m p) l = one_bounded n k m p (most_count p) (bounded p l.1)
 bounded (mtwo n k m p q) l =
-    two_bounded n k m p q l.0 (most_size p) (most_size q) (λ b. (idle_left p b, idle_may p b))
+    two_bounded n k m p q l.0 (most_count p) (most_count q) (λ b. (idle_left p b, idle_may p b))
     (λ b. (idle_left q b, idle_may q b))
     (bounded p l.1) (bounded q l.2)
-
-run_falls : {s z : State} {w : List Pos} → Fine s → Turns (rest s.0) → Run Can next s w z
-    → length w + steps_left z.0 ≤ steps_left s.0
-run_falls f c still = omega arith
-run_falls {s = s} f c (then {i = x} r o) =
-    let h = run_falls (diamond.keep s x f r) (subst Turns (sym (rest_after s.0 x)) c) o in
-    let g = (falls s.1 s.0 f.0 c x r).less in
-    omega arith
-
-pub instant_ends : InstantEnds
-instant_ends s z w f c r = let h = run_falls f c r in let g = (bounded s.0 f.0).always in
-    omega arith
