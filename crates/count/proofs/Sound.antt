@@ -2,6 +2,7 @@
 use Rattle.std.proofs.Common.{◌≡◌, ℕ, ◌<◌, ◌≤◌, Bool, true, false, ◌||◌, List, length, replicate}
 use Rattle.std.proofs.Common.{sym, refl, ap, ◌∙◌, subst, ap₂, arith, ext_get_or}
 use lib.ListN.{length-replicate}
+use Rattle.std.proofs.lemmas.Bool.{both_ways}
 use Rattle.routine.specs.declared.kinds.Kind.{Kind}
 use Rattle.routine.specs.Tree.{tree_at}
 use Rattle.routine.specs.Search.{lowest}
@@ -11,17 +12,17 @@ use Rattle.rules.specs.Rules.{ready, fire, ended}
 use Rattle.rules.specs.Legal.{Legal, keeps, two_legal}
 use Rattle.rules.specs.Model.{first_marks, status_of}
 use Rattle.rules.specs.Theorems.{Checked, MarksStayLegal}
-use Rattle.rules.proofs.MarkedTrees.{live, Legal as Lawful}
-use Rattle.rules.proofs.Shapes.{marked}
-use Rattle.rules.proofs.Frames.{In, idled_same, idled_kept, marked_rest, over_same}
-use Rattle.rules.proofs.FlatRuns.{same_marks}
-use Rattle.rules.proofs.Positions.{idle_over}
-use Rattle.rules.proofs.Table.{sound}
-use Rattle.rules.proofs.Instants.{idle_blank}
-use Rattle.rules.proofs.Final.{to_legal}
-use Rattle.rules.proofs.Promises.{rows}
-use Rattle.rules.proofs.Checked.{table, of_routine}
-use Rattle.rules.proofs.Stays.{marks_stay_legal}
+use Rattle.rules.proofs.MarkedTrees.{live, LegalTree}
+use Rattle.rules.proofs.MarksIntoTrees.{marked}
+use Rattle.rules.proofs.StepsAtPositions.{ready_in}
+use Rattle.rules.proofs.Frames.{idled_same, idled_kept, marked_rest, over_same}
+use Rattle.rules.proofs.StepsOnTrees.{same_marks}
+use Rattle.rules.proofs.QuietInside.{idle_over}
+use Rattle.rules.proofs.SoundTrees.{sound}
+use Rattle.rules.proofs.IdleTrees.{idle_blank}
+use Rattle.rules.proofs.LegalByStatement.{to_legal, rows}
+use Rattle.rules.proofs.TestsPassed.{table, of_routine}
+use Rattle.rules.proofs.MarksStayLegal.{marks_stay_legal}
 use Rattle.count.specs.declared.rows.Rows.{Rows}
 use Rattle.count.specs.View.{kinds_in, marks_in, signals_in, count_in, tree_in, Marked}
 use Rattle.record.specs.declared.phases.Phase.{Phase}
@@ -29,8 +30,8 @@ use Rattle.record.specs.Phases.{is_open, is_over, phase_of}
 use Rattle.count.specs.Calls.{phase_after}
 use Rattle.count.specs.Machine.{leaf_signal_present, two_signal_present, leaf_applies, two_applies}
 use Rattle.count.specs.Machine.{applies, own_signal_present}
-use Rattle.rules.proofs.Inward.{own_rule}
-use Rattle.rules.proofs.Lowest.{by_rule}
+use Rattle.rules.proofs.NothingReadyInside.{own_rule}
+use Rattle.rules.proofs.LowestByRule.{by_rule}
 use Rattle.record.proofs.Lists.{marks_many, kinds_many as table_kinds_many}
 
 abbrev pub Keeps : Bool → List Kind → List Mark → Type 0
@@ -134,13 +135,6 @@ pub rule_told : (t : Rows) (e : Signals) (i : ℕ) (was_present applied : Bool)
 rule_told t e i was_present applied h a =
     a ∙ ap (applies (tree_in t i) (marks_in t)) h ∙ sym (rule_same (tree_in t i) (marks_in t) e)
 
--- what is ready is a statement
-ready_in : (t : Tree) (ms : List Mark) (e : Signals) (k : ℕ) → ready t ms e k ≡ true → In t k
-ready_in (leaf n l) ms e k h = grind arith
-ready_in (one n l p) ms e k h = let f = ready_in p ms e k in grind arith
-ready_in (two n l p q) ms e k h = let f = ready_in p ms e k in let g = ready_in q ms e k in
-    grind arith
-
 -- the rule of a ready statement applies
 pub ready_applies : (t : Rows) (e : Signals) (k : ℕ) (was_present : Bool)
     → ready (tree_in t 0) (marks_in t) e k ≡ true → was_present ≡ own_signal_present (tree_in t k) e
@@ -153,9 +147,6 @@ ready_applies t e k was_present r h =
     ∙ own_rule ks T.shaped T.once (marks_in t) e k T.some_row
     (ready_in (tree_in t 0) (marks_in t) e k r) r
 
-pub never : (b : Bool) → b ≡ true → b ≡ false → ⊥
-never b p q = let z : ◌≡◌ {A = ℕ} 0 1 = cc in omega arith
-
 pub step_sound : (p : Phase) (t u : Rows) (e : Signals) (k : ℕ) → is_open p ≡ true
     → Keeps (is_open p) (kinds_in t) (marks_in t) → ready (tree_in t 0) (marks_in t) e k ≡ true
     → Marked t u (fire (tree_in t k) (marks_in t)) → Keeps (is_open p) (kinds_in u) (marks_in u)
@@ -164,8 +155,8 @@ step_sound p t u e k o h r m =
     (step_keeps t u e k (subst (λ b. Keeps b (kinds_in t) (marks_in t)) o h) r m)
 
 -- what is over keeps its marks at the end
-pub over_ended : (t : Tree) (ms : List Mark) (e : Signals) → Lawful (marked t ms) → over t ms ≡ true
-    → ended t ms e ≡ ms
+pub over_ended : (t : Tree) (ms : List Mark) (e : Signals) → LegalTree (marked t ms)
+    → over t ms ≡ true → ended t ms e ≡ ms
 over_ended (leaf n k) ms e g o = grind arith
 over_ended (one n k p) ms e g o = grind arith
 over_ended (two n k p q) ms e g o =
@@ -192,7 +183,7 @@ after_not_open false = refl
 
 pub over_after : (b : Bool) → is_over (phase_of (status_of b)) ≡ true → b ≡ true
 over_after true h = refl
-over_after false h = absurd (never false h refl)
+over_after false h = absurd (both_ways false refl h)
 
 module _ (p : Phase) (t u : Rows) (e : Signals) (o : is_open p ≡ true)
     (h : Keeps (is_open p) (kinds_in t) (marks_in t))
