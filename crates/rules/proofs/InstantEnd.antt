@@ -15,6 +15,7 @@ use Rattle.rules.proofs.MarksIntoTrees.{marked}
 use Rattle.rules.proofs.Frames.{Kept, idled_kept, begun_kept, Fits, unset, unseen, over_same}
 use Rattle.rules.proofs.StepsAtPositions.{set_own, idled_own, begun_own}
 
+-- a leaf, a statement of one part, and one of two, after the end; c, d: the parts after it
 abbrev pub close_leaf : Mark → Leaf → Mark
 close_leaf Idle k = Idle
 close_leaf Waiting nothing = Waiting
@@ -43,6 +44,7 @@ close_two n Waiting (when s) o p q c d = mtwo n (when s) UnderWay p (begin q)
 close_two n UnderWay k o p q c d = cond o (mtwo n k UnderWay p q) (mtwo n k UnderWay c d)
 close_two n Done k o p q c d = mtwo n k Done p q
 
+-- a tree after the end of the instant
 abbrev pub close : Signals → Marked → Marked
 close e (mleaf n k m) = mleaf n k (close_leaf m k)
 close e (mone n k m p) = close_one e n m k p (close e p)
@@ -65,6 +67,7 @@ two_ended_kept : (n : ℕ) (m : Mark) (k : Two) (o : Bool) (p q : Tree)
 two_ended_kept n m k o p q go go' ms a b = let c = begun_kept q (set ms n UnderWay) in
     grind (arith, length-set, get_or-set_other)
 
+-- the end of an instant changes marks inside the tree alone
 pub ended_kept : (t : Tree) (ms : List Mark) (e : Signals) → Kept (In t) ms (ended t ms e)
 ended_kept (leaf n k) ms e = let m = at ms n in grind (arith, length-set, get_or-set_other)
 ended_kept (one n k p) ms e =
@@ -111,6 +114,7 @@ module _ (N : ℕ) (e : Signals) where
       let a₇ = unseen p us (begun q us) (begun_kept q us) d.2 ∙ unset p ms n UnderWay d.0 in
       grind arith
 
+  -- the end over a list is the end of the tree with its marks
   pub ended_same : (t : Tree) (ms : List Mark) → Distinct t → Fits N t → length ms ≡ N
       → marked t (ended t ms e) ≡ close e (marked t ms)
   ended_same (leaf n k) ms d f l =
@@ -129,7 +133,6 @@ module _ (N : ℕ) (e : Signals) where
       (ended_same p ms d.3 fp l) (λ ns l'. ended_same q ns d.4 fq l') in
       cc
 
--- the end of an instant leaves legal marks
 two_closes : (n : ℕ) (k : Two) (m : Mark) (o : Bool) (p q c d : Marked) → LegalTree (mtwo n k m p q)
     → LegalTree c × (live c ≡ live p) → LegalTree d × (live d ≡ live q)
     → (live q ≡ false → LegalTree (begin q) × (live (begin q) ≡ true))
@@ -142,6 +145,7 @@ two_closes n k UnderWay true p q c d l h g b = (l, refl)
 two_closes n k UnderWay false p q c d l h g b = ((rw (h.1, g.1) l.0, h.0, g.0), refl)
 two_closes n k Done o p q c d l h g b = (l, refl)
 
+-- the end of an instant leaves legal marks
 pub close_legal : (e : Signals) (t : Marked) → LegalTree t
     → LegalTree (close e t) × (live (close e t) ≡ live t)
 close_legal e (mleaf n k m) l = grind arith

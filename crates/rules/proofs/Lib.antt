@@ -1,5 +1,6 @@
 pub mod UniqueEnds
 pub mod MarkedTrees
+pub mod TreeScopes
 pub mod QuietInside
 pub mod LegalTrees
 pub mod StepsCommute
@@ -7,8 +8,9 @@ pub mod StepsLeft
 pub mod StepsFall
 pub mod MarksIntoTrees
 pub mod Frames
-pub mod StepsAtPositions
+pub mod StepsFromRoot
 pub mod Locality
+pub mod StepsAtPositions
 pub mod InstantEnd
 pub mod IdleTrees
 pub mod TableTests
@@ -17,6 +19,7 @@ pub mod LegalByStatement
 pub mod RuleFromRoot
 pub mod TestsPassed
 pub mod StepsOnTrees
+pub mod EitherOrder
 pub mod NothingReadyInside
 pub mod OpenLocals
 pub mod OpenStatements

@@ -133,6 +133,7 @@ module _ (gs : List SignalKind) (ks : List Kind) (C : Checked gs ks) (ms : List 
       let n = none_below Q (length ks) (sym by_rule ∙ lowest_none P (length ks) p) in
       both_ways _ (n i (ready_below gs ks C i ms e r)) r
 
+-- the theorem
 pub lowest_by_rule : (gs : List SignalKind) (ks : List Kind) → Checked gs ks → LowestByRule gs ks
 lowest_by_rule gs ks C =
     record {

@@ -11,17 +11,17 @@ use Rattle.rules.specs.Legal.{Legal, row_legal}
 use Rattle.rules.specs.Model.{first_marks, Config, Ready, stepped}
 use Rattle.rules.specs.Rules.{Mark, is_live, at, reached, Idle, begun, ended}
 use Rattle.rules.specs.Theorems.{Checked, MarksStayLegal}
-use Rattle.rules.proofs.MarkedTrees.{live, LegalTree, begin, after}
+use Rattle.rules.proofs.MarkedTrees.{live, LegalTree, rest, begin, after}
 use Rattle.rules.proofs.LegalTrees.{rest_legal, begin_legal, after_legal}
-use Rattle.rules.proofs.MarksIntoTrees.{marked, blank}
-use Rattle.rules.proofs.Frames.{marked_rest, begun_same, begun_kept}
+use Rattle.rules.proofs.MarksIntoTrees.{marked}
+use Rattle.rules.proofs.Frames.{begun_same, begun_kept}
 use Rattle.rules.proofs.InstantEnd.{close, ended_same, close_legal, ended_kept}
-use Rattle.rules.proofs.IdleTrees.{idle_blank}
+use Rattle.rules.proofs.IdleTrees.{rest_idle, all_idle}
 use Rattle.rules.proofs.TableTests.{Table}
 use Rattle.rules.proofs.SoundTrees.{Sound, sound}
 use Rattle.rules.proofs.LegalByStatement.{root_live, from_legal, to_legal, rows}
 use Rattle.rules.proofs.TestsPassed.{table}
-use Rattle.rules.proofs.StepsOnTrees.{stands_at}
+use Rattle.rules.proofs.StepsOnTrees.{placed_step}
 use Rattle.rules.proofs.OpenLocals.{no_open, nested, rest_closed, begin_closed, after_nested}
 use Rattle.rules.proofs.OpenLocals.{close_closed}
 use Rattle.rules.proofs.OpenStatements.{open_at, none_open, all_nested, open_reached}
@@ -81,17 +81,17 @@ module _ (gs : List SignalKind) (ks : List Kind) (C : Checked gs ks) where
   starts =
       let t = tree_at ks 0 in
       let os = replicate (length ks) Idle in
-      let r : (LegalTree (blank t) × (live (blank t) ≡ false)) =
-      subst (λ u. LegalTree u × (live u ≡ false)) (marked_rest t os) (rest_legal (marked t os)) in
-      let n : no_open (blank t) ≡ true =
-      subst (λ u. no_open u ≡ true) (marked_rest t os) (rest_closed (marked t os)) in
-      let e : marked t (begun t os) ≡ begin (blank t) =
-      begun_same (length ks) t os S.distinct S.below (length-replicate (length ks) Idle)
-      ∙ ap begin (idle_blank t (length ks)) in
-      let b = begin_legal (blank t) r.0 r.1 in
-      make false (begun t os) ((begun_kept t os).length ∙ length-replicate (length ks) Idle)
-      (subst LegalTree (sym e) b.0) (ap live e ∙ b.1)
-      (none_to_show (begun t os) (ap no_open e ∙ begin_closed (blank t) n))
+      let l = length-replicate (length ks) Idle in
+      let i : rest (marked t os) ≡ marked t os = rest_idle t os (λ j u. all_idle (length ks) j) in
+      let r = rest_legal (marked t os) in
+      let n : no_open (marked t os) ≡ true =
+      subst (λ u. no_open u ≡ true) i (rest_closed (marked t os)) in
+      let e : marked t (begun t os) ≡ begin (marked t os) =
+      begun_same (length ks) t os S.distinct S.below l in
+      let b = begin_legal (marked t os) (subst LegalTree i r.0) (sym (ap live i) ∙ r.1) in
+      make false (begun t os) ((begun_kept t os).length ∙ l) (subst LegalTree (sym e) b.0)
+      (ap live e ∙ b.1)
+      (none_to_show (begun t os) (ap no_open e ∙ begin_closed (marked t os) n))
 
   after_step : (c : Config) (i : ℕ) → Legal true ks c.0 → Ready ks c i
       → Legal true ks (stepped ks c i).0
@@ -99,7 +99,7 @@ module _ (gs : List SignalKind) (ks : List Kind) (C : Checked gs ks) where
       let t = tree_at ks 0 in
       let ms = (stepped ks c i).0 in
       let g = to_legal ks gs T c.0 (rows true ks c.0 L) in
-      let x = stands_at gs ks C c i L r in
+      let x = placed_step gs ks C c i L r in
       let e : marked t ms ≡ after (marked t c.0) x.place = x.step.marks in
       let u = after_legal c.1 (marked t c.0) g x.place x.is_ready in
       let v = after_nested c.1 (marked t c.0) g (nests c.0 L) x.place x.is_ready in
@@ -119,6 +119,7 @@ module _ (gs : List SignalKind) (ks : List Kind) (C : Checked gs ks) where
       (ap live e ∙ u.1 ∙ live_root c.0 ∙ v)
       (none_to_show ms (ap no_open e ∙ close_closed c.1 (marked t c.0) g))
 
+  -- the theorem
   pub marks_stay_legal : MarksStayLegal gs ks
   marks_stay_legal =
       record {

@@ -20,7 +20,7 @@ use Rattle.rules.proofs.MarkedTrees.{LegalTree}
 use Rattle.rules.proofs.QuietInside.{over_quiet, over_says, one_alone, two_alone}
 use Rattle.rules.proofs.MarksIntoTrees.{marked}
 use Rattle.rules.proofs.Frames.{over_same}
-use Rattle.rules.proofs.StepsAtPositions.{position, one_applies, not_shut, two_applies}
+use Rattle.rules.proofs.StepsAtPositions.{placed, one_applies, not_shut, two_applies}
 use Rattle.rules.proofs.TableTests.{Table}
 use Rattle.rules.proofs.SoundTrees.{sound}
 use Rattle.rules.proofs.LegalByStatement.{legal_to, rows}
@@ -31,7 +31,7 @@ use Rattle.rules.proofs.StepsOnTrees.{ready_below}
 module _ (e : Signals) (ms : List Mark) (j : ℕ) where
   over_alone : (t : Tree) → LegalTree (marked t ms) → over t ms ≡ true → ¬ (ready t ms e j ≡ true)
   over_alone t g o r =
-      let x = position e ms j t g r in
+      let x = placed e ms j t g r in
       over_quiet e (marked t ms) g (over_says (marked t ms) g (sym (over_same t ms) ∙ o)) x.0 x.2
 
   rule_alone : (t : Tree) → Distinct t → LegalTree (marked t ms) → rule t ms e ≡ true
@@ -41,7 +41,7 @@ module _ (e : Signals) (ms : List Mark) (j : ℕ) where
       let ne : ¬ (j ≡ n) = λ z. d.0 (subst (In p) z (contains_in p j h)) in
       let s = and_parts (not (shut (at ms n) k)) (ready p ms e j)
       (sym (pick_no (ℕ_discrete j n) (one_rule (at ms n) k (over p ms)) _ ne) ∙ w) in
-      let x = position e ms j p g.1 s.1 in
+      let x = placed e ms j p g.1 s.1 in
       one_alone e n k (at ms n) (marked p ms) g (one_applies e ms n k p g r)
       (not_shut (at ms n) k (not-true (shut (at ms n) k) s.0)) x.0 x.2
   rule_alone (two n k p q) d g r h w =
@@ -53,10 +53,10 @@ module _ (e : Signals) (ms : List Mark) (j : ℕ) where
       elim (or_cases (ready p ms e j) (ready q ms e j)
       (sym (pick_no (ℕ_discrete j n) (two_rule e (at ms n) k (over p ms)) _ ne) ∙ w)) [
         | inl u ↦
-            let x = position e ms j p g.1 u in
+            let x = placed e ms j p g.1 u in
             two_alone e n k (at ms n) (marked p ms) (marked q ms) g own x.0 (inl x.2)
         | inr u ↦
-            let x = position e ms j q g.2 u in
+            let x = placed e ms j q g.2 u in
             two_alone e n k (at ms n) (marked p ms) (marked q ms) g own x.0 (inr x.2)
       ]
 
@@ -145,6 +145,7 @@ module _ (gs : List SignalKind) (ks : List Kind) (C : Checked gs ks) (c : Config
       (own_rule ks T.shaped T.once c.0 c.1 i T.some_row in_root r) h
       (ready_down ks T.shaped T.once c.0 i j v l c.1 T.some_row in_root w)
 
+-- the theorem
 pub nothing_ready_inside : (gs : List SignalKind) (ks : List Kind) → Checked gs ks
     → NothingReadyInside gs ks
 nothing_ready_inside gs ks C =

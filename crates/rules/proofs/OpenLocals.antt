@@ -10,11 +10,13 @@ use Rattle.rules.proofs.MarkedTrees.{after, here, left, right, is_over}
 use Rattle.rules.proofs.QuietInside.{idle_not_over, over_says}
 use Rattle.rules.proofs.InstantEnd.{close_one, close_two, close}
 
+-- an open local stands here
 abbrev pub opens : Mark → One → Bool
 opens m loop = false
 opens m (kill s) = false
 opens m (local s) = is_underway m
 
+-- no local of the tree is open
 abbrev pub no_open : Marked → Bool
 no_open (mleaf n k m) = true
 no_open (mone n k m p) = not (opens m k) && no_open p
@@ -26,12 +28,14 @@ nested (mleaf n k m) = true
 nested (mone n k m p) = nested p && (not (shut m k) || no_open p)
 nested (mtwo n k m p q) = nested p && nested q
 
+-- none is where all was idled
 pub rest_closed : (t : Marked) → no_open (rest t) ≡ true
 rest_closed (mleaf n k m) = refl
 rest_closed (mone n k m p) = let h = rest_closed p in grind arith
 rest_closed (mtwo n k m p q) = let h = rest_closed p in let g = rest_closed q in grind arith
 
-pub closed_nested : (t : Marked) → no_open t ≡ true → nested t ≡ true
+-- where none is open, none lies inside a shut one
+closed_nested : (t : Marked) → no_open t ≡ true → nested t ≡ true
 closed_nested (mleaf n k m) h = refl
 closed_nested (mone n k m p) h = let g = closed_nested p in grind arith
 closed_nested (mtwo n k m p q) h = let g = closed_nested p in let f = closed_nested q in grind arith
@@ -42,6 +46,7 @@ idle_closed (mone n k m p) l b = let h = idle_closed p l.1 in grind arith
 idle_closed (mtwo n k m p q) l b = let h = idle_closed p l.1 in let g = idle_closed q l.2 in
     grind arith
 
+-- nor after a begin
 pub begin_closed : (t : Marked) → no_open t ≡ true → no_open (begin t) ≡ true
 begin_closed (mleaf n k m) h = refl
 begin_closed (mone n k m p) h = let g = begin_closed p in grind arith
@@ -86,6 +91,7 @@ one_in : (m : Mark) (k : One) (b c : Bool) → Opened m k → c ≡ true
     → (c && (not (shut m k) || b)) ≡ true
 one_in m k b c o h = grind arith
 
+-- a step leaves no open local inside a shut one
 pub after_nested : (e : Signals) (t : Marked) → LegalTree t → nested t ≡ true → (x : Pos)
     → ReadyAt e t x → nested (after t x) ≡ true
 after_nested e (mleaf n k m) l h here r = refl
@@ -126,6 +132,7 @@ two_is_over : (n : ℕ) (k : Two) (m : Mark) (p q : Marked) → LegalTree (mtwo 
 two_is_over n k m p q l o =
     over_closed (mtwo n k m p q) l (over_says (mtwo n k m p q) l (or_right _ _ o))
 
+-- the end of the instant leaves no local open
 pub close_closed : (e : Signals) (t : Marked) → LegalTree t → no_open (close e t) ≡ true
 close_closed e (mleaf n k m) l = refl
 close_closed e (mone n k m p) l =

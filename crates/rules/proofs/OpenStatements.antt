@@ -35,7 +35,7 @@ module _ (ks : List Kind) (S : Rising ks) (O : Once ks) (ms : List Mark) where
   apart : (a : ℕ) → a < length ks → Distinct (node a (shape_at ks a) (tree_at ks))
   apart a l = subst Distinct (unroll ks S a l) (distinct ks S O a l)
 
-  -- where no local of a tree is open, none of its statements is an open local, and back
+  -- where no local of a tree is open, none of its statements is an open local
   pub none_open : (i a : ℕ) → a < length ks → In (tree_at ks a) i
       → no_open (marked (tree_at ks a) ms) ≡ true → open_at ks ms i ≡ false
   none_open i = trees ks S (λ a t. In t i → no_open (marked t ms) ≡ true → open_at ks ms i ≡ false)
@@ -54,6 +54,7 @@ module _ (ks : List Kind) (S : Rising ks) (O : Once ks) (ms : List Mark) where
       at_shape a (two_parts k p q) w g (inr (inl u)) h = g p (inl refl) u (and_parts _ _ h).0
       at_shape a (two_parts k p q) w g (inr (inr u)) h = g q (inr refl) u (and_parts _ _ h).1
 
+  -- and back
   all_shut : (a : ℕ) → a < length ks → ((i : ℕ) → In (tree_at ks a) i → open_at ks ms i ≡ false)
       → no_open (marked (tree_at ks a) ms) ≡ true
   all_shut = trees ks S (λ a t. ((i : ℕ) → In t i → open_at ks ms i ≡ false)
@@ -72,7 +73,7 @@ module _ (ks : List Kind) (S : Rising ks) (O : Once ks) (ms : List Mark) where
           let x = g p (inl refl) (λ i u. h i (inr (inl u))) in
           let y = g q (inr refl) (λ i u. h i (inr (inr u))) in grind arith
 
-  -- where no open local of a tree lies inside a shut one, each is reached, and back
+  -- where no open local of a tree lies inside a shut one, each is reached
   pub open_reached : (i a : ℕ) → a < length ks → In (tree_at ks a) i
       → nested (marked (tree_at ks a) ms) ≡ true → open_at ks ms i ≡ true
       → reached (tree_at ks a) ms i ≡ true
@@ -113,6 +114,7 @@ module _ (ks : List Kind) (S : Rising ks) (O : Once ks) (ms : List Mark) where
           pick_no (ℕ_discrete i a) true _ ne
           ∙ or_right (reached (tree_at ks p) ms i) (reached (tree_at ks q) ms i) x
 
+  -- and back
   pub all_nested : (a : ℕ) → a < length ks
       → ((i : ℕ) → In (tree_at ks a) i → open_at ks ms i ≡ true
       → reached (tree_at ks a) ms i ≡ true) → nested (marked (tree_at ks a) ms) ≡ true

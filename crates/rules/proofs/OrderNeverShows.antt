@@ -18,8 +18,9 @@ use Rattle.rules.specs.Theorems.{Checked, InstantEnds, OrderNeverShows}
 use Rattle.rules.proofs.UniqueEnds.{Diamond, unique}
 use Rattle.rules.proofs.StepsLeft.{steps_left}
 use Rattle.rules.proofs.MarksIntoTrees.{marked}
-use Rattle.rules.proofs.StepsOnTrees.{either_order, falls_here, ready_below, left_most}
+use Rattle.rules.proofs.StepsOnTrees.{falls_here, ready_below, left_most}
 use Rattle.rules.proofs.MarksStayLegal.{marks_stay_legal}
+use Rattle.rules.proofs.EitherOrder.{either_order}
 
 module _ (gs : List SignalKind) (ks : List Kind) (C : Checked gs ks) where
   -- marks stay legal, and two ready statements can be stepped in either order
@@ -89,6 +90,7 @@ module _ (gs : List SignalKind) (ks : List Kind) (C : Checked gs ks) where
       → RunsQuiet c (path ks (enough ks) c) (settled ks (enough ks) c)
   model_run c L = path_runs (enough ks) c L (left_most gs ks C c.0 L)
 
+  -- the theorem InstantEnds
   pub instant_ends : InstantEnds gs ks
   instant_ends =
       record {
@@ -106,6 +108,7 @@ module _ (gs : List SignalKind) (ks : List Kind) (C : Checked gs ks) where
       let u = unique ℕ_discrete (Ready ks) (stepped ks) (λ c. Legal true ks c.0) diamond L r q r' q'
       in (u.0, λ i. sym (sum_by-IsPermutation (λ k. cond (k == i) 1 0) v w u.1))
 
+  -- the theorem OrderNeverShows
   pub order_never_shows : OrderNeverShows gs ks
   order_never_shows =
       record {

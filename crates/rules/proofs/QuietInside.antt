@@ -12,11 +12,11 @@ idle_not_over (mone n k m p) l b o = grind arith
 idle_not_over (mtwo n k m p q) l b o = let h = idle_not_over p in let g = idle_not_over q in
     grind arith
 
--- what the test finds over is over, where marks are legal
 over_two : (m : Mark) (k : Two) (b c x : Bool) → two_legal m k b c ≡ true → (is_done m || x) ≡ true
     → x ≡ true
 over_two m k b c x g h = grind arith
 
+-- what the test finds over is over, where marks are legal
 pub over_says : (t : Marked) → LegalTree t → is_over t ≡ true → Over t
 over_says (mleaf n k m) l h = grind arith
 over_says (mone n k m p) l h = grind arith
@@ -69,6 +69,7 @@ module _ (e : Signals) where
       → ReadyOne m k p → Opened m k → (x : Pos) → ¬ (ReadyAt e p x)
   one_alone n k m p l r o x r' = let h = idle_quiet p in let g = over_quiet p in grind arith
 
+  -- the same for two parts
   pub two_alone : (n : ℕ) (k : Two) (m : Mark) (p q : Marked) → LegalTree (mtwo n k m p q)
       → ReadyTwo e m k p → (x : Pos) → ¬ (ReadyAt e p x ⊎ ReadyAt e q x)
   two_alone n k m p q l r x r' =

@@ -9,7 +9,7 @@ use Rattle.routine.proofs.Trees.{In, Rising, trees, unroll, Part}
 use Rattle.rules.specs.Rules.{pick, Tree, Mark, reached, leaf, one, two, Signals, fire, effect_of}
 use Rattle.rules.specs.Rules.{ready, rule, One, Two}
 use Rattle.rules.proofs.MarksIntoTrees.{fired, effect}
-use Rattle.rules.proofs.StepsAtPositions.{missed, uneffective, unready}
+use Rattle.rules.proofs.StepsFromRoot.{missed, uneffective, unready}
 
 -- what is picked where the two are the same, and where they are not
 pub pick_yes : {A B : Type 0} (d : Dec A) (x y : B) → A → pick d x y ≡ x
@@ -64,6 +64,7 @@ module _ (ms : List Mark) (e : Signals) (i : ℕ) (u : Tree) where
       grind arith
 
 module _ (ks : List Kind) (S : Rising ks) (O : Once ks) (ms : List Mark) (e : Signals) (i : ℕ) where
+  -- so it is from any statement around it
   pub from_root : (a : ℕ) → a < length ks → In (tree_at ks a) i
       → FromRoot ms e i (tree_at ks a) (tree_at ks i)
   from_root = trees ks S (λ a t. In t i → FromRoot ms e i t (tree_at ks i))

@@ -95,6 +95,7 @@ run_below gs ks C still = All-nil (λ i. i < length ks)
 run_below gs ks C {c = c} (then {i = i} {w = w} r h) =
     All-cons (λ i. i < length ks) i w (ready_below gs ks C i c.0 c.1 r) (run_below gs ks C h)
 
+-- the theorem StepsAddUp
 pub steps_add_up : (gs : List SignalKind) (ks : List Kind) → Checked gs ks → StepsAddUp gs ks
 steps_add_up gs ks C ms input L =
     counted (length ks) (path ks (enough ks) (ms, word_set input))
@@ -102,6 +103,7 @@ steps_add_up gs ks C ms input L =
     ((instant_ends gs ks C).model_runs (ms, word_set input)
     ((marks_stay_legal gs ks C).begins ms L)))
 
+-- the theorem SameOutcome
 pub same_outcome : (gs : List SignalKind) (ks : List Kind) → Checked gs ks → SameOutcome gs ks
 same_outcome gs ks C ms input x v L r q =
     let c : Config = (ms, word_set input) in

@@ -1,94 +1,23 @@
 -- the step of a ready statement, found from the root of a tree, is the step at its position
-use Rattle.std.proofs.Common.{ℕ, List, set, arith, length-set, get_or-set_other, ◌⊎◌, inl, inr, ◌≡◌}
-use Rattle.std.proofs.Common.{true, false, Bool, sym, ◌∙◌, not, ◌&&◌, ◌||◌, length, ◌<◌}
-use Rattle.std.proofs.Common.{get_or-set_same, ap, refl, subst}
-use Rattle.std.proofs.lemmas.Bool.{false_from_ne_true, false≢true, and_parts, not-true, or_cases}
+use Rattle.std.proofs.Common.{ℕ, List, ◌≡◌, true, arith, Bool, false, sym, ◌∙◌, not, ◌&&◌, ◌||◌}
+use Rattle.std.proofs.Common.{inl, inr, length, ◌<◌, set, get_or-set_same, length-set, ap, refl}
+use Rattle.std.proofs.Common.{subst}
+use Rattle.std.proofs.lemmas.Bool.{false≢true, and_parts, not-true, or_cases}
 use Rattle.std.proofs.Math.Decide.{ℕ_discrete}
 use Rattle.routine.proofs.Once.{Distinct}
 use Rattle.routine.proofs.Trees.{In}
 use Rattle.rules.specs.Legal.{one_legal, two_legal}
-use Rattle.rules.specs.Rules.{Mark, One, Tree, one, one_fired, UnderWay, Waiting, Done, Two, two}
-use Rattle.rules.specs.Rules.{two_fired, idled, leaf, at, Signals, ready, no_effect, Leaf}
-use Rattle.rules.specs.Rules.{leaf_rule, one_rule, two_rule, shut, over, pick, Idle, begun}
+use Rattle.rules.specs.Rules.{Tree, leaf, one, two, Signals, Mark, ready, Leaf, leaf_rule, One}
+use Rattle.rules.specs.Rules.{one_rule, Two, two_rule, shut, at, over, pick, Idle, begun, idled}
+use Rattle.rules.specs.Rules.{one_fired, UnderWay, Waiting, Done, two_fired, no_effect}
 use Rattle.rules.proofs.MarkedTrees.{Pos, here, left, right, after, effect_at, ReadyLeaf, Marked}
 use Rattle.rules.proofs.MarkedTrees.{live, Over, ReadyOne, ReadyTwo, Opened, is_over, LegalTree}
 use Rattle.rules.proofs.MarkedTrees.{ReadyAt, begin, rest, after_one, after_two}
 use Rattle.rules.proofs.QuietInside.{over_is, idle_over, over_says}
-use Rattle.rules.proofs.MarksIntoTrees.{fired, effect, marked}
-use Rattle.rules.proofs.Frames.{Kept, begun_kept, idled_kept, over_same, Fits, begun_same, unset}
-use Rattle.rules.proofs.Frames.{idled_same, unseen}
-
--- what a step changes lies inside the tree
-one_fired_kept : (n : ℕ) (m : Mark) (k : One) (p : Tree) (ms : List Mark)
-    → Kept (In (one n k p)) ms (one_fired n m k p ms)
-one_fired_kept n m k p ms =
-    let a = begun_kept p (set ms n UnderWay) in
-    let b = idled_kept p (set ms n Waiting) in
-    let c = idled_kept p (set ms n Done) in
-    grind (arith, length-set, get_or-set_other)
-
-two_fired_kept : (n : ℕ) (k : Two) (p q : Tree) (ms : List Mark)
-    → Kept (In (two n k p q)) ms (two_fired n k p q ms)
-two_fired_kept n k p q ms =
-    let a = begun_kept p (set ms n UnderWay) in
-    let b = idled_kept p ms in
-    let c = begun_kept q (idled p ms) in
-    grind (arith, length-set, get_or-set_other)
-
-pub fired_kept : (t : Tree) (ms : List Mark) (i : ℕ) → Kept (In t) ms (fired t ms i)
-fired_kept (leaf n k) ms i = grind (arith, length-set, get_or-set_other)
-fired_kept (one n k p) ms i =
-    let h = one_fired_kept n (at ms n) k p ms in
-    let g = fired_kept p ms i in
-    grind arith
-fired_kept (two n k p q) ms i =
-    let h = two_fired_kept n k p q ms in
-    let g = fired_kept p ms i in
-    let f = fired_kept q (fired p ms i) i in
-    grind arith
-
--- whether a number is in a tree
-pub In-dec : (t : Tree) (i : ℕ) → (In t i) ⊎ (¬ (In t i))
-In-dec (leaf n k) i = elim (ℕ_discrete i n) [ yes a ↦ inl a | no d ↦ inr d ]
-In-dec (one n k p) i = elim (ℕ_discrete i n) [
-  | yes a ↦ inl (inl a)
-  | no d ↦ elim (In-dec p i) [
-    | inl h ↦ inl (inr h)
-    | inr g ↦ inr (elim [ inl a ↦ d a | inr h ↦ g h ])
-  ]
-]
-In-dec (two n k p q) i = elim (ℕ_discrete i n) [
-  | yes a ↦ inl (inl a)
-  | no d ↦ elim (In-dec p i) [
-    | inl h ↦ inl (inr (inl h))
-    | inr g ↦ elim (In-dec q i) [
-      | inl h ↦ inl (inr (inr h))
-      | inr f ↦ inr (elim [ inl a ↦ d a | inr h ↦ elim h [ inl x ↦ g x | inr y ↦ f y ] ])
-    ]
-  ]
-]
-
--- what is ready in a tree is in it
-pub ready_in : (t : Tree) (ms : List Mark) (e : Signals) (i : ℕ) → ready t ms e i ≡ true → In t i
-ready_in (leaf n k) ms e i h = grind arith
-ready_in (one n k p) ms e i h = let f = ready_in p ms e i in grind arith
-ready_in (two n k p q) ms e i h = let f = ready_in p ms e i in let g = ready_in q ms e i in
-    grind arith
-
--- a number that is not in a tree: no step, not ready, no effect
-pub missed : (t : Tree) (ms : List Mark) (i : ℕ) → ¬ (In t i) → fired t ms i ≡ ms
-missed (leaf n k) ms i d = grind arith
-missed (one n k p) ms i d = let h = missed p ms i in grind arith
-missed (two n k p q) ms i d = let h = missed p ms i in let g = missed q ms i in grind arith
-
-pub unready : (t : Tree) (ms : List Mark) (e : Signals) (i : ℕ) → ¬ (In t i)
-    → ready t ms e i ≡ false
-unready t ms e i d = false_from_ne_true (ready t ms e i) (λ r. d (ready_in t ms e i r))
-
-pub uneffective : (t : Tree) (i : ℕ) → ¬ (In t i) → effect t i ≡ no_effect
-uneffective (leaf n k) i d = grind arith
-uneffective (one n k p) i d = let h = uneffective p i in grind arith
-uneffective (two n k p q) i d = let h = uneffective p i in let g = uneffective q i in grind arith
+use Rattle.rules.proofs.MarksIntoTrees.{marked, fired, effect}
+use Rattle.rules.proofs.Frames.{over_same, Fits, begun_kept, begun_same, unset, idled_kept}
+use Rattle.rules.proofs.Frames.{idled_same, unseen, Kept}
+use Rattle.rules.proofs.StepsFromRoot.{missed, uneffective, fired_kept, unready}
 
 -- the number of the statement at a position; outside the tree 0
 abbrev pub number : Tree → Pos → ℕ
@@ -103,7 +32,7 @@ number (two n k p q) (left x) = number p x
 number (two n k p q) (right x) = number q x
 
 -- i stands at x, is ready there, and its step found from the root is the step at x
-pub record StandsAt (e : Signals) (t : Tree) (ms : List Mark) (i : ℕ) (x : Pos) : Type 0 where
+pub record StepAt (e : Signals) (t : Tree) (ms : List Mark) (i : ℕ) (x : Pos) : Type 0 where
   pub is_ready : ready t ms e i ≡ true
   pub marks : marked t (fired t ms i) ≡ after (marked t ms) x
   pub effects : effect t i ≡ effect_at (marked t ms) x
@@ -122,6 +51,7 @@ two_ready : (e : Signals) (m : Mark) (k : Two) (o : Bool) (p q : Marked)
     → two_rule e m k o ≡ true → ReadyTwo e m k p
 two_ready e m k o p q g i f h = grind arith
 
+-- what is not shut is open to steps inside it
 pub not_shut : (m : Mark) (k : One) → shut m k ≡ false → Opened m k
 not_shut m k h = grind arith
 
@@ -158,14 +88,14 @@ module _ (e : Signals) (ms : List Mark) where
   Placed i t = (x : Pos) × (i ≡ number t x) × ReadyAt e (marked t ms) x
 
   -- so does what is ready, where marks are legal
-  pub position : (i : ℕ) (t : Tree) → LegalTree (marked t ms) → ready t ms e i ≡ true → Placed i t
-  position i (leaf n k) l h = by (ℕ_discrete i n) h
+  pub placed : (i : ℕ) (t : Tree) → LegalTree (marked t ms) → ready t ms e i ≡ true → Placed i t
+  placed i (leaf n k) l h = by (ℕ_discrete i n) h
     where
       by : (d : Dec (i ≡ n)) → pick d (leaf_rule e (at ms n) k) false ≡ true
-          → (x : Pos) × (i ≡ number (leaf n k) x) × ReadyAt e (marked (leaf n k) ms) x
+          → Placed i (leaf n k)
       by (yes a) h = (here, a, leaf_ready e (at ms n) k h)
       by (no d) h = absurd (false≢true h)
-  position i (one n k p) l h = by (ℕ_discrete i n) (position i p l.1) h
+  placed i (one n k p) l h = by (ℕ_discrete i n) (placed i p l.1) h
     where
       by : (d : Dec (i ≡ n))
           → (ready p ms e i ≡ true → Placed i p)
@@ -177,7 +107,7 @@ module _ (e : Signals) (ms : List Mark) where
           let u = and_parts (not (shut (at ms n) k)) (ready p ms e i) h in
           let g = f u.1 in
           (left g.0, g.1, (not_shut (at ms n) k (not-true (shut (at ms n) k) u.0), g.2))
-  position i (two n k p q) l h = by (ℕ_discrete i n) (position i p l.1) (position i q l.2) h
+  placed i (two n k p q) l h = by (ℕ_discrete i n) (placed i p l.1) (placed i q l.2) h
     where
       by : (d : Dec (i ≡ n))
           → (ready p ms e i ≡ true → Placed i p)
@@ -190,6 +120,7 @@ module _ (e : Signals) (ms : List Mark) where
         | inr u ↦ let y = g u in (right y.0, y.1, y.2)
       ]
 
+  -- a position that is ready is one of the tree
   pub position_in : (t : Tree) (x : Pos) → ReadyAt e (marked t ms) x → In t (number t x)
   position_in (leaf n k) x r = grind arith
   position_in (one n k p) x r = let h = position_in p in grind arith
@@ -198,6 +129,7 @@ module _ (e : Signals) (ms : List Mark) where
 -- the part p, and the number n, after a writer has been at n and then inside p
 module _ (N n : ℕ) (p : Tree) (ms : List Mark) (d : ¬ (In p n)) (g : Distinct p)
     (f : Fits N p) (l : length ms ≡ N) (a : n < N) where
+  -- the mark that is written at n
   pub set_own : (m : Mark) → at (set ms n m) n ≡ m
   set_own m = get_or-set_same ms n m Idle (omega arith)
 
@@ -263,42 +195,42 @@ module _ (N n : ℕ) (k : Two) (p q : Tree) (ms : List Mark) (d : Distinct (two 
 
 module _ (N : ℕ) (e : Signals) where
   -- the statement at a position that is ready
-  pub stands : (t : Tree) (ms : List Mark) → Distinct t → Fits N t → length ms ≡ N → (x : Pos)
-      → ReadyAt e (marked t ms) x → StandsAt e t ms (number t x) x
-  stands (leaf n k) ms d f l here r =
+  pub step_at : (t : Tree) (ms : List Mark) → Distinct t → Fits N t → length ms ≡ N → (x : Pos)
+      → ReadyAt e (marked t ms) x → StepAt e t ms (number t x) x
+  step_at (leaf n k) ms d f l here r =
       let a = get_or-set_same ms n Done Idle (let a = f n refl in omega arith) in
       let b = leaf_rules e (at ms n) k r in
       grind arith
-  stands (leaf n k) ms d f l (left x) r = absurd r
-  stands (leaf n k) ms d f l (right x) r = absurd r
-  stands (one n k p) ms d f l here r =
+  step_at (leaf n k) ms d f l (left x) r = absurd r
+  step_at (leaf n k) ms d f l (right x) r = absurd r
+  step_at (one n k p) ms d f l here r =
       let a = one_step N n p ms d.0 d.1 (λ j h. f j (inr h)) l (f n (inl refl)) (at ms n) k r in
       let b = one_rules (at ms n) k (marked p ms) r in
       let c = over_same p ms in
       grind arith
-  stands (one n k p) ms d f l (left x) r =
-      let h = stands p ms d.1 (λ j h. f j (inr h)) l x r.1 in
+  step_at (one n k p) ms d f l (left x) r =
+      let h = step_at p ms d.1 (λ j h. f j (inr h)) l x r.1 in
       let i = number p x in
       let ne : ¬ (i ≡ n) = λ z. d.0 (subst (In p) z (position_in e ms p x r.1)) in
       let o = (fired_kept p ms i).other n d.0 in
       let h₀ = h.is_ready in let h₁ = h.marks in let h₂ = h.effects in let h₃ = r.0 in
       grind arith
-  stands (one n k p) ms d f l (right x) r = absurd r
-  stands (two n k p q) ms d f l here r =
+  step_at (one n k p) ms d f l (right x) r = absurd r
+  step_at (two n k p q) ms d f l here r =
       let a = two_step N n k p q ms d f l in
       let b = two_rules e (at ms n) k (marked p ms) r in
       let c = over_same p ms in
       grind arith
-  stands (two n k p q) ms d f l (left x) r =
-      let h = stands p ms d.3 (λ j h. f j (inr (inl h))) l x r in
+  step_at (two n k p q) ms d f l (left x) r =
+      let h = step_at p ms d.3 (λ j h. f j (inr (inl h))) l x r in
       let i = number p x in
       let u = position_in e ms p x r in
       let ne : ¬ (i ≡ n) = λ z. d.0 (subst (In p) z u) in
       let o = in_left N n k p q ms d f l i u (fired p ms i) (fired_kept p ms i) in
       let h₀ = h.is_ready in let h₁ = h.marks in let h₂ = h.effects in
       grind arith
-  stands (two n k p q) ms d f l (right x) r =
-      let h = stands q ms d.4 (λ j h. f j (inr (inr h))) l x r in
+  step_at (two n k p q) ms d f l (right x) r =
+      let h = step_at q ms d.4 (λ j h. f j (inr (inr h))) l x r in
       let i = number q x in
       let u = position_in e ms q x r in
       let ne : ¬ (i ≡ n) = λ z. d.1 (subst (In q) z u) in

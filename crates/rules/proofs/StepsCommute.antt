@@ -2,9 +2,10 @@
 use Rattle.std.proofs.Common.{List, ℕ, set, ◌≡◌, [], refl, ◌∷◌, zero, suc, ap, Bool, get_or, false}
 use Rattle.std.proofs.Common.{true, arith, get_or-set_other, inr, sym, ◌∙◌}
 use Rattle.std.proofs.lemmas.List.{set_comm}
-use Rattle.rules.specs.Rules.{Effect, no_effect, raises, drops, Signals, apply}
-use Rattle.rules.proofs.MarkedTrees.{Marked, Names, Binds, Pos, effect_at, rest, mleaf, mone, mtwo}
-use Rattle.rules.proofs.MarkedTrees.{Present, ReadyAt, after, LegalTree, Scoped}
+use Rattle.rules.specs.Rules.{Effect, Tree, no_effect, raises, drops, Signals, apply}
+use Rattle.rules.proofs.MarkedTrees.{Marked, Pos, effect_at, unmarked, mleaf, mone, mtwo, Present}
+use Rattle.rules.proofs.MarkedTrees.{ReadyAt, after, LegalTree}
+use Rattle.rules.proofs.TreeScopes.{Names, Binds, Scoped}
 use Rattle.rules.proofs.QuietInside.{one_alone, two_alone}
 
 -- what two writes of one value leave, in either order
@@ -25,12 +26,12 @@ set_more (x ∷ e) (suc a) zero h = h
 set_more (x ∷ e) (suc a) (suc b) h = set_more e a b h
 
 -- what a step's effect says of the tree
-abbrev Touches : Effect → Marked → Type 0
+abbrev Touches : Effect → Tree → Type 0
 Touches no_effect t = Unit {0}
 Touches (raises s) t = Names t s
 Touches (drops s) t = Binds t s
 
-touches : (t : Marked) (x : Pos) → Touches (effect_at t x) (rest t)
+touches : (t : Marked) (x : Pos) → Touches (effect_at t x) (unmarked t)
 touches (mleaf n k m) x = grind arith
 touches (mone n k m p) x = let h = touches p in grind arith
 touches (mtwo n k m p q) x = let h = touches p in let g = touches q in grind arith
@@ -53,21 +54,21 @@ effects_commute f g d e = grind (arith, set_twice, set_comm)
 -- in the other
 abbrev Clear : Marked → Marked → Type 0
 Clear p q =
-    ((s : ℕ) → Binds (rest p) s → ¬ (Names (rest q) s))
-    × ((s : ℕ) → Binds (rest q) s → ¬ (Names (rest p) s))
+    ((s : ℕ) → Binds (unmarked p) s → ¬ (Names (unmarked q) s))
+    × ((s : ℕ) → Binds (unmarked q) s → ¬ (Names (unmarked p) s))
 
-apart : (f g : Effect) (p q : Marked) → Clear p q → Touches f (rest p) → Touches g (rest q)
+apart : (f g : Effect) (p q : Marked) → Clear p q → Touches f (unmarked p) → Touches g (unmarked q)
     → Apart f g
 apart f g p q c h k = grind arith
 
 -- what is present stays so under an effect that drops nothing named here
-spares : (e : Signals) (f : Effect) (p q : Marked) → Clear p q → Touches f (rest p)
-    → (s : ℕ) → Names (rest q) s → Present e s → Present (apply f e) s
+spares : (e : Signals) (f : Effect) (p q : Marked) → Clear p q → Touches f (unmarked p)
+    → (s : ℕ) → Names (unmarked q) s → Present e s → Present (apply f e) s
 spares e f p q c h s k r = grind (arith, set_more, get_or-set_other)
 
 module _ (e e' : Signals) where
   ready_still : (t : Marked) (x : Pos)
-      → ((s : ℕ) → Names (rest t) s → Present e s → Present e' s)
+      → ((s : ℕ) → Names (unmarked t) s → Present e s → Present e' s)
       → ReadyAt e t x → ReadyAt e' t x
   ready_still (mleaf n k m) x h r = grind arith
   ready_still (mone n k m p) x h r = let g = ready_still p in grind arith
@@ -80,6 +81,7 @@ aside e p q c x y r = (
   apart (effect_at p x) (effect_at q y) p q c (touches p x) (touches q y),
 )
 
+-- what holds of the steps at x and at y, by induction on the tree
 record Joins (e : Signals) (t : Marked) (x y : Pos) : Type 0 where
   ready : ReadyAt (apply (effect_at t x) e) (after t x) y
   marks : after (after t x) y ≡ after (after t y) x
@@ -87,7 +89,7 @@ record Joins (e : Signals) (t : Marked) (x y : Pos) : Type 0 where
   apart : Apart (effect_at t x) (effect_at t y)
 
 module _ (e : Signals) where
-  joins : (t : Marked) → LegalTree t → Scoped (rest t) → (x y : Pos) → ¬ (x ≡ y) → ReadyAt e t x
+  joins : (t : Marked) → LegalTree t → Scoped (unmarked t) → (x y : Pos) → ¬ (x ≡ y) → ReadyAt e t x
       → ReadyAt e t y → Joins e t x y
   joins (mleaf n k m) l c x y d r r' = grind arith
   joins (mone n k m p) l c x y d r r' = let a = one_alone e n k m p l in let h = joins p l.1 c.1 in
@@ -107,8 +109,9 @@ pub record Commute (e : Signals) (t : Marked) (x y : Pos) : Type 0 where
   pub signals : apply (effect_at (after t x) y) (apply (effect_at t x) e)
       ≡ apply (effect_at (after t y) x) (apply (effect_at t y) e)
 
-pub commute : (e : Signals) (t : Marked) → LegalTree t → Scoped (rest t) → (x y : Pos) → ¬ (x ≡ y)
-    → ReadyAt e t x → ReadyAt e t y → Commute e t x y
+-- so they can be taken in either order
+pub commute : (e : Signals) (t : Marked) → LegalTree t → Scoped (unmarked t) → (x y : Pos)
+    → ¬ (x ≡ y) → ReadyAt e t x → ReadyAt e t y → Commute e t x y
 commute e t l c x y d r r' =
     let h = joins e t l c x y d r r' in
     let g = joins e t l c y x (λ z. d (sym z)) r' r in

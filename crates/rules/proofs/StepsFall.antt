@@ -1,50 +1,40 @@
 -- each step lets the steps that are left fall, from at most 4 for each statement
-use Rattle.std.proofs.Common.{◌≡◌, refl, arith, ap, ◌+◌, ap₂, sym, ◌∙◌, false, Bool, true, ◌≤◌, ℕ}
-use Rattle.std.proofs.Common.{◌<◌, subst, ◌*◌, cond, not, ◌⊎◌, inl, inr}
+use Rattle.std.proofs.Common.{◌≡◌, refl, ap, ap₂, arith, false, Bool, true, ◌≤◌, ℕ, ◌<◌, ◌*◌, cond}
+use Rattle.std.proofs.Common.{not, ◌⊎◌, inl, inr}
+use Rattle.routine.specs.Tree.{can_end, size}
 use Rattle.rules.specs.Legal.{one_legal, two_legal}
-use Rattle.rules.specs.Rules.{Mark, One, is_live, Two, Signals, sequence, parallel, when, UnderWay}
-use Rattle.rules.specs.Rules.{Idle, Waiting, Done}
-use Rattle.rules.proofs.MarkedTrees.{Marked, rest, mleaf, mone, mtwo, begin, Pos, after, live}
-use Rattle.rules.proofs.MarkedTrees.{LegalTree, Over, ReadyOne, after_one, Opened, ReadyTwo}
+use Rattle.rules.specs.Rules.{one, two, Mark, One, is_live, Two, Signals, sequence, parallel, when}
+use Rattle.rules.specs.Rules.{Tree, leaf, UnderWay, Idle, Waiting, Done}
+use Rattle.rules.proofs.MarkedTrees.{Marked, unmarked, rest, mleaf, mone, mtwo, begin, Pos, after}
+use Rattle.rules.proofs.MarkedTrees.{live, LegalTree, Over, ReadyOne, after_one, Opened, ReadyTwo}
 use Rattle.rules.proofs.MarkedTrees.{after_two, ReadyAt, here, left, right}
 use Rattle.rules.proofs.QuietInside.{idle_not_over, idle_quiet}
 use Rattle.rules.proofs.LegalTrees.{rest_legal}
-use Rattle.rules.proofs.StepsLeft.{most, most_one, most_two, ends, ends_one, ends_two, steps_left}
-use Rattle.rules.proofs.StepsLeft.{may, may_two, Loops, Turns, node_count}
+use Rattle.rules.proofs.StepsLeft.{steps_left, may, most, may_two, Loops, Turns}
 
--- what has nothing to do with marks stays
-rest_rest : (t : Marked) → rest (rest t) ≡ rest t
-rest_rest (mleaf n k m) = refl
-rest_rest (mone n k m p) = let h = rest_rest p in cc
-rest_rest (mtwo n k m p q) = let h = rest_rest p in let g = rest_rest q in cc
+-- a step changes marks alone
+unmarked_rest : (t : Marked) → unmarked (rest t) ≡ unmarked t
+unmarked_rest (mleaf n k m) = refl
+unmarked_rest (mone n k m p) = ap (one n k) (unmarked_rest p)
+unmarked_rest (mtwo n k m p q) = ap₂ (two n k) (unmarked_rest p) (unmarked_rest q)
 
-rest_begin : (t : Marked) → rest (begin t) ≡ rest t
-rest_begin (mleaf n k m) = refl
-rest_begin (mone n k m p) = let h = rest_begin p in grind arith
-rest_begin (mtwo n k m p q) = let h = rest_begin p in let g = rest_begin q in grind arith
+unmarked_begin : (t : Marked) → unmarked (begin t) ≡ unmarked t
+unmarked_begin (mleaf n k m) = refl
+unmarked_begin (mone n k m p) = let h = unmarked_begin p in grind arith
+unmarked_begin (mtwo n k m p q) =
+    let h = unmarked_begin p in
+    let g = unmarked_begin q in
+    grind arith
 
-pub rest_after : (t : Marked) (x : Pos) → rest (after t x) ≡ rest t
-rest_after (mleaf n k m) x = grind arith
-rest_after (mone n k m p) x = let h = rest_after p in grind (arith, rest_rest, rest_begin)
-rest_after (mtwo n k m p q) x = let h = rest_after p in let g = rest_after q in
-    grind (arith, rest_rest, rest_begin)
-
--- most and ends have nothing to do with marks
-most_rest : (t : Marked) → most (rest t) ≡ most t
-most_rest (mleaf n k m) = refl
-most_rest (mone n k m p) = ap (λ b. most_one k + b) (most_rest p)
-most_rest (mtwo n k m p q) = ap₂ (most_two k) (most_rest p) (most_rest q)
-
-ends_rest : (t : Marked) → ends (rest t) ≡ ends t
-ends_rest (mleaf n k m) = refl
-ends_rest (mone n k m p) = ap (ends_one k) (ends_rest p)
-ends_rest (mtwo n k m p q) = ap₂ (ends_two k) (ends_rest p) (ends_rest q)
-
-most_after : (t : Marked) (x : Pos) → most (after t x) ≡ most t
-most_after t x = sym (most_rest (after t x)) ∙ ap most (rest_after t x) ∙ most_rest t
-
-ends_after : (t : Marked) (x : Pos) → ends (after t x) ≡ ends t
-ends_after t x = sym (ends_rest (after t x)) ∙ ap ends (rest_after t x) ∙ ends_rest t
+unmarked_after : (t : Marked) (x : Pos) → unmarked (after t x) ≡ unmarked t
+unmarked_after (mleaf n k m) x = grind arith
+unmarked_after (mone n k m p) x =
+    let h = unmarked_after p in
+    grind (arith, unmarked_rest, unmarked_begin)
+unmarked_after (mtwo n k m p q) x =
+    let h = unmarked_after p in
+    let g = unmarked_after q in
+    grind (arith, unmarked_rest, unmarked_begin)
 
 -- of an idle tree
 idle_left : (t : Marked) → live t ≡ false → steps_left t ≡ 0
@@ -67,8 +57,8 @@ idle_two m k b c o i = grind arith
 
 -- of a fresh one
 pub record Fresh (t : Marked) : Type 0 where
-  pub ending : may (begin t) ≡ ends t
-  pub bound : steps_left (begin t) ≤ most t
+  pub ending : may (begin t) ≡ can_end (unmarked t)
+  pub bound : steps_left (begin t) ≤ most (unmarked t)
 
 one_fresh : (n : ℕ) (k : One) (m : Mark) (p : Marked) → Fresh p → Fresh (mone n k m p)
 one_fresh n k m p f = grind arith
@@ -77,6 +67,7 @@ two_fresh : (n : ℕ) (k : Two) (m : Mark) (p q : Marked) → steps_left q ≡ 0
     → Fresh q → Fresh (mtwo n k m p q)
 two_fresh n k m p q i j f g = grind arith
 
+-- a tree that is idle and legal
 pub fresh : (t : Marked) → LegalTree t → live t ≡ false → Fresh t
 fresh (mleaf n k m) l b = grind arith
 fresh (mone n k m p) l b = one_fresh n k m p (fresh p l.1 (idle_one m k (live p) l.0 b))
@@ -91,24 +82,28 @@ two_may m k p q f g o l l' h h' n w =
     let i = idle_may p in let j = idle_not_over p in let k = idle_not_over q in
     grind arith
 
+-- what is over may end
 pub over_may : (t : Marked) → LegalTree t → Over t → may t ≡ true
 over_may (mleaf n k m) l o = grind arith
 over_may (mone n k m p) l o = grind arith
 over_may (mtwo n k m p q) l o =
-    two_may m k p q (ends p) (ends q) l.0 l.1 l.2 (over_may p l.1) (over_may q l.2) n o
+    two_may m k p q (can_end (unmarked p)) (can_end (unmarked q)) l.0 l.1 l.2 (over_may p l.1)
+    (over_may q l.2) n o
 
+-- from t to u the steps that are left fall, and u may end only if t may
 pub record Falls (t u : Marked) : Type 0 where
   pub less : steps_left u < steps_left t
   pub never : may u ≡ true → may t ≡ true
 
 one_here : (n : ℕ) (k : One) (m : Mark) (p : Marked) → one_legal m k (live p) ≡ true
-    → Loops k (ends p) → ReadyOne m k p
-    → (live p ≡ false → Fresh p) → (Over p → may p ≡ true) → most (rest p) ≡ most p
+    → Loops k (can_end (unmarked p)) → ReadyOne m k p
+    → (live p ≡ false → Fresh p) → (Over p → may p ≡ true)
+    → most (unmarked (rest p)) ≡ most (unmarked p)
     → Falls (mone n k m p) (after_one n m k p)
 one_here n k m p o c r f g h = grind arith
 
 one_left : (n : ℕ) (k : One) (m : Mark) (p q : Marked) → one_legal m k (live p) ≡ true
-    → live p ≡ true → Opened m k → most q ≡ most p → Falls p q
+    → live p ≡ true → Opened m k → most (unmarked q) ≡ most (unmarked p) → Falls p q
     → Falls (mone n k m p) (mone n k m q)
 one_left n k m p q o b w h f = grind arith
 
@@ -130,11 +125,11 @@ two_left n (when s) m p q u o b i f = grind arith
 
 two_right : (n : ℕ) (k : Two) (m : Mark) (p q u : Marked) → two_legal m k (live p) (live q) ≡ true
     → live q ≡ true
-    → (live p ≡ false → may p ≡ false) → most u ≡ most q → ends u ≡ ends q → Falls q u
+    → (live p ≡ false → may p ≡ false) → unmarked u ≡ unmarked q → Falls q u
     → Falls (mtwo n k m p q) (mtwo n k m p u)
-two_right n sequence m p q u o b i a c f = grind arith
-two_right n parallel m p q u o b i a c f = grind arith
-two_right n (when s) m p q u o b i a c f = grind arith
+two_right n sequence m p q u o b i a f = grind arith
+two_right n parallel m p q u o b i a f = grind arith
+two_right n (when s) m p q u o b i a f = grind arith
 
 module _ (e : Signals) where
   ready_live : (t : Marked) → LegalTree t → (x : Pos) → ReadyAt e t x → live t ≡ true
@@ -143,14 +138,15 @@ module _ (e : Signals) where
       at : (b : Bool) → ¬ (b ≡ false) → b ≡ true
       at b d = grind arith
 
-  pub falls : (t : Marked) → LegalTree t → Turns (rest t) → (x : Pos) → ReadyAt e t x
+  -- every step lets them fall
+  pub falls : (t : Marked) → LegalTree t → Turns (unmarked t) → (x : Pos) → ReadyAt e t x
       → Falls t (after t x)
   falls (mleaf n k m) l c x r = grind arith
   falls (mone n k m p) l c here r =
-      one_here n k m p l.0 (subst (Loops k) (ends_rest p) c.0) r (fresh p l.1) (over_may p l.1)
-      (most_rest p)
+      one_here n k m p l.0 c.0 r (fresh p l.1) (over_may p l.1)
+      (ap most (unmarked_rest p))
   falls (mone n k m p) l c (left x) r =
-      one_left n k m p (after p x) l.0 (ready_live p l.1 x r.1) r.0 (most_after p x)
+      one_left n k m p (after p x) l.0 (ready_live p l.1 x r.1) r.0 (ap most (unmarked_after p x))
       (falls p l.1 c.1 x r.1)
   falls (mone n k m p) l c (right x) r = absurd r
   falls (mtwo n k m p q) l c here r =
@@ -161,20 +157,25 @@ module _ (e : Signals) where
   falls (mtwo n k m p q) l c (left x) r =
       two_left n k m p q (after p x) l.0 (ready_live p l.1 x r) (idle_may q) (falls p l.1 c.0 x r)
   falls (mtwo n k m p q) l c (right x) r =
-      two_right n k m p q (after q x) l.0 (ready_live q l.2 x r) (idle_may p) (most_after q x)
-      (ends_after q x) (falls q l.2 c.1 x r)
+      two_right n k m p q (after q x) l.0 (ready_live q l.2 x r) (idle_may p)
+      (unmarked_after q x) (falls q l.2 c.1 x r)
 
--- the bounds
-most_count : (t : Marked) → most t ≤ 2 * node_count t
-most_count (mleaf n k m) = grind arith
-most_count (mone n k m p) = let h = most_count p in grind arith
-most_count (mtwo n k m p q) = let h = most_count p in let g = most_count q in grind arith
+-- no more than 2 steps for each statement of a tree that is begun afresh
+most_size : (t : Tree) → most t ≤ 2 * size t
+most_size (leaf n k) = grind arith
+most_size (one n k p) = let h = most_size p in grind arith
+most_size (two n k p q) = let h = most_size p in let g = most_size q in grind arith
 
+-- how many steps can be left
 pub record Bounded (t : Marked) : Type 0 where
-  pub always : steps_left t ≤ 4 * node_count t
-  pub ending : may t ≡ true → steps_left t ≤ 2 * node_count t
+  pub always : steps_left t ≤ 4 * size (unmarked t)
+  pub ending : may t ≡ true → steps_left t ≤ 2 * size (unmarked t)
 
-one_bounded : (n : ℕ) (k : One) (m : Mark) (p : Marked) → most p ≤ 2 * node_count p → Bounded p
+-- the most steps of a tree that is begun afresh fit
+abbrev MostFits : Marked → Type 0
+MostFits t = most (unmarked t) ≤ 2 * size (unmarked t)
+
+one_bounded : (n : ℕ) (k : One) (m : Mark) (p : Marked) → MostFits p → Bounded p
     → Bounded (mone n k m p)
 one_bounded n k m p c h = grind arith
 
@@ -182,7 +183,7 @@ which : (b c : Bool) → cond b (not c) c ≡ true → (c ≡ false) ⊎ (b ≡ 
 which true c h = inl (grind arith)
 which false c h = inr refl
 
-seq_1 : (n : ℕ) (p q : Marked) → (steps_left q ≡ 0) × (may q ≡ false) → most q ≤ 2 * node_count q
+seq_1 : (n : ℕ) (p q : Marked) → (steps_left q ≡ 0) × (may q ≡ false) → MostFits q
     → Bounded p → Bounded (mtwo n sequence UnderWay p q)
 seq_1 n p q w b h = grind arith
 
@@ -191,7 +192,7 @@ seq_2 : (n : ℕ) (p q : Marked) → (steps_left p ≡ 0) × (may p ≡ false) �
 seq_2 n p q w g = grind arith
 
 two_bounded : (n : ℕ) (k : Two) (m : Mark) (p q : Marked) → two_legal m k (live p) (live q) ≡ true
-    → most p ≤ 2 * node_count p → most q ≤ 2 * node_count q
+    → MostFits p → MostFits q
     → (live p ≡ false → (steps_left p ≡ 0) × (may p ≡ false))
     → (live q ≡ false → (steps_left q ≡ 0) × (may q ≡ false))
     → Bounded p → Bounded q → Bounded (mtwo n k m p q)
@@ -210,8 +211,8 @@ two_bounded n (when s) m p q o a b i j h g = grind arith
 -- no more than 4 steps are left for each statement
 pub bounded : (t : Marked) → LegalTree t → Bounded t
 bounded (mleaf n k m) l = grind arith
-bounded (mone n k m p) l = one_bounded n k m p (most_count p) (bounded p l.1)
+bounded (mone n k m p) l = one_bounded n k m p (most_size (unmarked p)) (bounded p l.1)
 bounded (mtwo n k m p q) l =
-    two_bounded n k m p q l.0 (most_count p) (most_count q) (λ b. (idle_left p b, idle_may p b))
-    (λ b. (idle_left q b, idle_may q b))
+    two_bounded n k m p q l.0 (most_size (unmarked p)) (most_size (unmarked q))
+    (λ b. (idle_left p b, idle_may p b)) (λ b. (idle_left q b, idle_may q b))
     (bounded p l.1) (bounded q l.2)

@@ -5,13 +5,12 @@ use Rattle.routine.specs.declared.kinds.SignalKind.{SignalKind}
 use Rattle.routine.specs.declared.kinds.SignalKind.TheVariants.{Local}
 use Rattle.routine.specs.Kinds.{Shape, no_part, one_part, two_parts, shape_at}
 use Rattle.routine.specs.Meaning.{signal_at}
-use Rattle.routine.specs.Tree.{tree_at}
+use Rattle.routine.specs.Tree.{can_end, tree_at}
 use Rattle.routine.proofs.Once.{Once}
 use Rattle.routine.proofs.Trees.{Under, Rising}
 use Rattle.rules.specs.Rules.{One, loop, kill, local}
-use Rattle.rules.proofs.MarkedTrees.{BindsOne, NamesLeaf, NamesTwo}
-use Rattle.rules.proofs.StepsLeft.{Loops, ends}
-use Rattle.rules.proofs.MarksIntoTrees.{blank}
+use Rattle.rules.proofs.TreeScopes.{BindsOne, NamesLeaf, NamesTwo}
+use Rattle.rules.proofs.StepsLeft.{Loops}
 
 -- the row's statement is local to s
 abbrev pub RowBinds : Shape → ℕ → Type 0
@@ -41,9 +40,10 @@ pub record Scopes (ks : List Kind) (gs : List SignalKind) : Type 0 where
 -- a loop's first part cannot end at once
 abbrev pub Turning : List Kind → Shape → Type 0
 Turning ks (no_part k) = Unit {0}
-Turning ks (one_part k a) = Loops k (ends (blank (tree_at ks a)))
+Turning ks (one_part k a) = Loops k (can_end (tree_at ks a))
 Turning ks (two_parts k a b) = Unit {0}
 
+-- all tests of a table together
 pub record Table (ks : List Kind) (gs : List SignalKind) : Type 0 where
   pub some_row : 0 < length ks
   pub shaped : Rising ks

@@ -5,12 +5,13 @@ use Rattle.std.proofs.lemmas.Bool.{both_ways, and_parts}
 use Rattle.routine.specs.declared.checked.Routine.{Routine}
 use Rattle.routine.specs.declared.kinds.Kind.{Kind}
 use Rattle.routine.specs.declared.kinds.SignalKind.{SignalKind}
+use Rattle.routine.specs.declared.kinds.SignalKind.TheVariants.{Local}
 use Rattle.routine.specs.Kinds.{shape, kind_at, shape_at}
 use Rattle.routine.specs.Layout.{Formed}
 use Rattle.routine.specs.Meaning.{declares, misuses, signal_at, unscoped, is_out_of_scope, endless}
 use Rattle.routine.specs.Meaning.{in_scope, encloses}
 use Rattle.routine.specs.Search.{any, lowest}
-use Rattle.routine.specs.Tree.{inside, contains, can_end, tree_at}
+use Rattle.routine.specs.Tree.{inside, contains, tree_at}
 use Rattle.routine.specs.View.{table_signals, table_kinds}
 use Rattle.routine.proofs.Passed.{Tested, tested, once}
 use Rattle.routine.proofs.Searches.{lowest_below, found, none_below}
@@ -19,10 +20,7 @@ use Rattle.routine.proofs.Whole.{some_statement}
 use Rattle.routine.specs.Meaning.{is_local}
 use Rattle.rules.specs.Rules.{Tree, leaf, one, two}
 use Rattle.rules.specs.Theorems.{Checked}
-use Rattle.rules.proofs.StepsLeft.{ends}
-use Rattle.rules.proofs.MarksIntoTrees.{blank}
 use Rattle.rules.proofs.TableTests.{RowBinds, RowUses, Turning, Scopes, Table}
-use Rattle.routine.specs.declared.kinds.SignalKind.TheVariants.{Local}
 
 -- what any finds
 any_says : (P : ℕ → Bool) (n : ℕ) → any P n ≡ true → (k : ℕ) × (k < n) × (P k ≡ true)
@@ -70,14 +68,8 @@ binds_alone gs ks i k s h b = grind arith
 astray_scope : (b c : Bool) → (b && not c) ≡ false → b ≡ true → c ≡ true
 astray_scope b c h e = grind arith
 
--- a fresh tree can end at once where the table says so
-pub ends_same : (t : Tree) → ends (blank t) ≡ can_end t
-ends_same (leaf n k) = grind arith
-ends_same (one n k p) = let h = ends_same p in grind arith
-ends_same (two n k p q) = let h = ends_same p in let g = ends_same q in grind arith
-
 turning_says : (ks : List Kind) (k : Kind) → endless ks k ≡ false → Turning ks (shape k)
-turning_says ks k h = let e = ends_same in grind arith
+turning_says ks k h = grind arith
 
 module _ (gs : List SignalKind) (ks : List Kind) (C : Checked gs ks) where
   tests : Tested gs ks

@@ -38,6 +38,7 @@ module _ {S L : Type 0} (same : (i j : L) → Dec (i ≡ j)) (Ready : S → L �
             )
       ]
 
+  -- all runs to quiet end in one state, by the same steps in another order
   pub unique : {s z y : S} {w u : List L} → Inv s → Run Ready next s w z → Quiet Ready z
       → Run Ready next s u y → Quiet Ready y
       → (z ≡ y) × IsPermutation w u
