@@ -12,7 +12,7 @@ use Rattle.routine.proofs.Once.{Once, one_owner}
 use Rattle.rules.specs.Rules.{Mark, Signals, Tree, at, is_done, over, two_over, rule, leaf_rule}
 use Rattle.rules.specs.Rules.{one_rule, two_rule, fire}
 use Rattle.rules.proofs.Frames.{Kept}
-use Rattle.rules.proofs.StepsAtPositions.{fired_kept}
+use Rattle.rules.proofs.StepsFromRoot.{fired_kept}
 use Rattle.rules.proofs.RuleFromRoot.{from_root}
 use Rattle.count.specs.Front.{entry, LooksAt, OverBy, Guards}
 

@@ -18,7 +18,7 @@ use Rattle.routine.proofs.Trees.{Rising, self, unroll, In, in_under, under_in}
 use Rattle.routine.proofs.Once.{Once}
 use Rattle.rules.specs.Rules.{Mark, Signals, rule, ready, fire, effect_of, apply}
 use Rattle.rules.specs.Theorems.{Checked}
-use Rattle.rules.proofs.StepsAtPositions.{In-dec}
+use Rattle.rules.proofs.StepsFromRoot.{In-dec}
 use Rattle.rules.proofs.TableTests.{Table}
 use Rattle.rules.proofs.TestsPassed.{table}
 use Rattle.rules.proofs.LowestByRule.{lowest_first, by_rule}

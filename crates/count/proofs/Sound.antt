@@ -14,12 +14,12 @@ use Rattle.rules.specs.Model.{first_marks, status_of}
 use Rattle.rules.specs.Theorems.{Checked, MarksStayLegal}
 use Rattle.rules.proofs.MarkedTrees.{live, LegalTree}
 use Rattle.rules.proofs.MarksIntoTrees.{marked}
-use Rattle.rules.proofs.StepsAtPositions.{ready_in}
-use Rattle.rules.proofs.Frames.{idled_same, idled_kept, marked_rest, over_same}
-use Rattle.rules.proofs.StepsOnTrees.{same_marks}
+use Rattle.rules.proofs.StepsFromRoot.{ready_in}
+use Rattle.rules.proofs.Frames.{idled_kept, over_same}
+use Rattle.rules.proofs.Locality.{idled_idle}
 use Rattle.rules.proofs.QuietInside.{idle_over}
 use Rattle.rules.proofs.SoundTrees.{sound}
-use Rattle.rules.proofs.IdleTrees.{idle_blank}
+use Rattle.rules.proofs.IdleTrees.{all_idle}
 use Rattle.rules.proofs.LegalByStatement.{to_legal, rows}
 use Rattle.rules.proofs.TestsPassed.{table, of_routine}
 use Rattle.rules.proofs.MarksStayLegal.{marks_stay_legal}
@@ -74,16 +74,12 @@ module _ (t : Rows) where
       → idled (tree_in t 0) ms ≡ replicate (length (kinds_in t)) Idle
   idle_all ms l =
       let ks = kinds_in t in
-      let T = table (signals_in t) ks checked in
-      let S = sound ks (signals_in t) T in
+      let S = sound ks (signals_in t) (table (signals_in t) ks checked) in
       let os = replicate (length ks) Idle in
       let u = tree_at ks 0 in
-      let e : marked u (idled u ms) ≡ marked u os =
-      idled_same (length ks) u ms S.distinct S.below l ∙ marked_rest u ms
-      ∙ sym (idle_blank u (length ks)) in
       let k : length (idled u ms) ≡ length ks = (idled_kept u ms).length ∙ l in
       ext_get_or Idle (idled u ms) os (k ∙ sym (length-replicate (length ks) Idle))
-      (λ i h. same_marks u (idled u ms) os e i (S.whole i (omega arith)))
+      (λ i h. idled_idle u ms i (S.whole i (omega arith)) ∙ sym (all_idle (length ks) i))
 
   pub begun_anew : (u v : Rows) → Marked t u (idled (tree_in t 0) (marks_in t))
       → Marked u v (begun (tree_in u 0) (marks_in u)) → marks_in v ≡ first_marks (kinds_in t)
