@@ -42,7 +42,8 @@ module _ (gs : List SignalKind) (ks : List Kind) (C : Checked gs ks) where
       ap₂ (λ (ms : List Mark) (x : Signals). (ms, x)) a f
 
   -- after the step at x, y is ready in the tree: so j, which stands at y, is ready
-  then_at : (c : Config) (i j : ℕ) (x y : Pos) → StepOnTree gs ks C c i x → j ≡ number (tree_at ks 0) y
+  then_at : (c : Config) (i j : ℕ) (x y : Pos) → StepOnTree gs ks C c i x
+      → j ≡ number (tree_at ks 0) y
       → ReadyAt (apply (effect_at (tree_of c.0) x) c.1) (after (tree_of c.0) x) y
       → StepOnTree gs ks C (stepped ks c i) j y
   then_at c i j x y s e r =
