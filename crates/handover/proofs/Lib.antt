@@ -1,4 +1,4 @@
-pub mod Listed
-pub mod Each
-pub mod Growing
+pub mod CallByCall
+pub mod ItemByItem
+pub mod EventByEvent
 pub mod Verdicts

@@ -1,9 +1,9 @@
 #![tactic(auto)]
 
-mod calls;
+mod call_lists;
+mod relay_texts;
 mod story;
-mod tellings;
-mod texts;
+mod transcripts;
 
 use std::io::Read;
 use story::story;
