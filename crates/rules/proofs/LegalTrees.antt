@@ -18,7 +18,7 @@ rest_legal (mleaf n k m) = grind arith
 rest_legal (mone n k m p) = let h = rest_legal p in grind arith
 rest_legal (mtwo n k m p q) = let h = rest_legal p in let g = rest_legal q in grind arith
 
--- each of the dear cases stands by itself, over variables: inside the recursion the kernel meets
+-- each of the costly cases stands by itself, over variables: inside the recursion the kernel meets
 -- its step limit
 abbrev Grows : Marked → Type 0
 Grows t = LegalTree t × (live t ≡ true)

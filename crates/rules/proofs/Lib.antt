@@ -11,7 +11,7 @@ pub mod Frames
 pub mod StepsFromRoot
 pub mod Locality
 pub mod StepsAtPositions
-pub mod InstantEnd
+pub mod ClosedTrees
 pub mod IdleTrees
 pub mod TableTests
 pub mod SoundTrees
@@ -24,6 +24,7 @@ pub mod NothingReadyInside
 pub mod OpenLocals
 pub mod OpenStatements
 pub mod MarksStayLegal
+pub mod InstantEnds
 pub mod OrderNeverShows
 pub mod StepsAddUp
 pub mod TakesTime

@@ -15,7 +15,7 @@ use Rattle.rules.proofs.MarkedTrees.{live, LegalTree, rest, begin, after}
 use Rattle.rules.proofs.LegalTrees.{rest_legal, begin_legal, after_legal}
 use Rattle.rules.proofs.MarksIntoTrees.{marked}
 use Rattle.rules.proofs.Frames.{begun_same, begun_kept}
-use Rattle.rules.proofs.InstantEnd.{close, ended_same, close_legal, ended_kept}
+use Rattle.rules.proofs.ClosedTrees.{close, ended_same, close_legal, ended_kept}
 use Rattle.rules.proofs.IdleTrees.{rest_idle, all_idle}
 use Rattle.rules.proofs.TableTests.{Table}
 use Rattle.rules.proofs.SoundTrees.{Sound, sound}

@@ -8,7 +8,7 @@ use Rattle.rules.proofs.MarkedTrees.{Marked, mleaf, mone, mtwo, rest, LegalTree,
 use Rattle.rules.proofs.MarkedTrees.{ReadyOne, after_one, ReadyTwo, after_two, Opened, Pos, ReadyAt}
 use Rattle.rules.proofs.MarkedTrees.{after, here, left, right, is_over}
 use Rattle.rules.proofs.QuietInside.{idle_not_over, over_says}
-use Rattle.rules.proofs.InstantEnd.{close_one, close_two, close}
+use Rattle.rules.proofs.ClosedTrees.{close_one, close_two, close}
 
 -- an open local stands here
 abbrev pub opens : Mark → One → Bool

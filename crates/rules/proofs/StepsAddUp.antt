@@ -18,7 +18,8 @@ use Rattle.rules.specs.Runs.{Run, still, then}
 use Rattle.rules.specs.Theorems.{Checked, StepsAddUp, SameOutcome}
 use Rattle.rules.proofs.StepsOnTrees.{ready_below}
 use Rattle.rules.proofs.MarksStayLegal.{marks_stay_legal}
-use Rattle.rules.proofs.OrderNeverShows.{instant_ends, order_never_shows}
+use Rattle.rules.proofs.InstantEnds.{instant_ends}
+use Rattle.rules.proofs.OrderNeverShows.{order_never_shows}
 
 -- f summed over the numbers below n
 abbrev summed : (ℕ → ℕ) → ℕ → ℕ

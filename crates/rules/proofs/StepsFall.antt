@@ -95,6 +95,7 @@ pub record Falls (t u : Marked) : Type 0 where
   pub less : steps_left u < steps_left t
   pub never : may u ≡ true → may t ≡ true
 
+-- the step of a statement of one part, and a step inside it
 one_here : (n : ℕ) (k : One) (m : Mark) (p : Marked) → one_legal m k (live p) ≡ true
     → Loops k (can_end (unmarked p)) → ReadyOne m k p
     → (live p ≡ false → Fresh p) → (Over p → may p ≡ true)
@@ -107,6 +108,7 @@ one_left : (n : ℕ) (k : One) (m : Mark) (p q : Marked) → one_legal m k (live
     → Falls (mone n k m p) (mone n k m q)
 one_left n k m p q o b w h f = grind arith
 
+-- the step of a statement of two parts, and a step inside each
 two_here : (e : Signals) (n : ℕ) (k : Two) (m : Mark) (p q : Marked)
     → two_legal m k (live p) (live q) ≡ true → ReadyTwo e m k p
     → (live p ≡ false → Fresh p) → (live q ≡ false → Fresh q)
@@ -183,13 +185,14 @@ which : (b c : Bool) → cond b (not c) c ≡ true → (c ≡ false) ⊎ (b ≡ 
 which true c h = inl (grind arith)
 which false c h = inr refl
 
-seq_1 : (n : ℕ) (p q : Marked) → (steps_left q ≡ 0) × (may q ≡ false) → MostFits q
+-- a sequence under way, its first live and its second idle, and the other way round
+first_live : (n : ℕ) (p q : Marked) → (steps_left q ≡ 0) × (may q ≡ false) → MostFits q
     → Bounded p → Bounded (mtwo n sequence UnderWay p q)
-seq_1 n p q w b h = grind arith
+first_live n p q w b h = grind arith
 
-seq_2 : (n : ℕ) (p q : Marked) → (steps_left p ≡ 0) × (may p ≡ false) → Bounded q
+second_live : (n : ℕ) (p q : Marked) → (steps_left p ≡ 0) × (may p ≡ false) → Bounded q
     → Bounded (mtwo n sequence UnderWay p q)
-seq_2 n p q w g = grind arith
+second_live n p q w g = grind arith
 
 two_bounded : (n : ℕ) (k : Two) (m : Mark) (p q : Marked) → two_legal m k (live p) (live q) ≡ true
     → MostFits p → MostFits q
@@ -200,9 +203,8 @@ two_bounded n sequence Idle p q o a b i j h g = grind arith
 two_bounded n sequence Waiting p q o a b i j h g = grind arith
 two_bounded n sequence UnderWay p q o a b i j h g =
     elim (which (live p) (live q) o) [
-      | inl u ↦ let w = j u in
-          seq_1 n p q w b h
-      | inr u ↦ let w = i u in seq_2 n p q w g
+      | inl u ↦ let w = j u in first_live n p q w b h
+      | inr u ↦ let w = i u in second_live n p q w g
     ]
 two_bounded n sequence Done p q o a b i j h g = grind arith
 two_bounded n parallel m p q o a b i j h g = grind arith

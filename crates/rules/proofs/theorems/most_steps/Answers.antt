@@ -1,7 +1,7 @@
 use Rattle.std.proofs.Common.{ℕ, ◌*◌, ap}
 use Rattle.routine.specs.View.{table_signals, table_kinds}
 use Rattle.rules.proofs.TestsPassed.{of_routine}
-use Rattle.rules.proofs.OrderNeverShows.{instant_ends}
+use Rattle.rules.proofs.InstantEnds.{instant_ends}
 use Rattle.rules.proofs.StepsAddUp.{steps_add_up}
 use Rattle.rules.proofs.theorems.most_steps.Goals as goal
 
