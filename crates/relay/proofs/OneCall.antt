@@ -18,7 +18,7 @@ use Rattle.rules.specs.Legal.{Legal}
 use Rattle.rules.specs.Model.{Config, Ready, stepped, settled, path, enough, Outcome, instant}
 use Rattle.rules.specs.Model.{instants_from, closed}
 use Rattle.rules.specs.Theorems.{Checked}
-use Rattle.rules.proofs.OrderNeverShows.{instant_ends}
+use Rattle.rules.proofs.InstantEnds.{instant_ends}
 use Rattle.rules.proofs.StepsOnTrees.{ready_below}
 use Rattle.rules.proofs.MarksStayLegal.{marks_stay_legal}
 use Rattle.rules.proofs.StepsAddUp.{same_outcome}
