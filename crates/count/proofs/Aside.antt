@@ -7,13 +7,13 @@ use Rattle.routine.specs.Kinds.{Two, sequence, parallel, when, Shape, no_part, o
 use Rattle.routine.specs.Kinds.{shape_at}
 use Rattle.routine.specs.Tree.{node, tree_at}
 use Rattle.routine.proofs.Trees.{Part, Rising, Under, self, part, unroll, trees, under_below}
+use Rattle.routine.proofs.Trees.{In, in_under, under_in}
 use Rattle.routine.proofs.Once.{Once, one_owner}
 use Rattle.rules.specs.Rules.{Mark, Signals, Tree, at, is_done, over, two_over, rule, leaf_rule}
 use Rattle.rules.specs.Rules.{one_rule, two_rule, fire}
-use Rattle.rules.proofs.Frames.{In, Kept}
-use Rattle.rules.proofs.Steps.{fired_kept}
-use Rattle.rules.proofs.Table.{in_under, under_in}
-use Rattle.rules.proofs.Own.{told}
+use Rattle.rules.proofs.Frames.{Kept}
+use Rattle.rules.proofs.StepsFromRoot.{fired_kept}
+use Rattle.rules.proofs.RuleFromRoot.{from_root}
 use Rattle.count.specs.Front.{entry, LooksAt, OverBy, Guards}
 
 -- the guards of a statement's parts
@@ -67,7 +67,7 @@ module _ (ks : List Kind) (S : Rising ks) (O : Once ks) (i : ℕ) (li : i < leng
   kept j d =
       let k : Kept (In (tree_at ks i)) ms ns =
       subst (Kept (In (tree_at ks i)) ms)
-      (told ks S O ms [] i i li (under_in ks S li self)).marks
+      (from_root ks S O ms [] i i li (under_in ks S li self)).marks
       (fired_kept (tree_at ks i) ms i) in
       k.other j (λ u. d (in_under ks S i li j u))
 

@@ -14,16 +14,14 @@ use Rattle.routine.specs.Search.{lowest}
 use Rattle.routine.specs.Tree.{tree_at}
 use Rattle.routine.proofs.Searches.{Found, found, lowest_below, lowest_none, lowest_here}
 use Rattle.routine.proofs.Searches.{none_below}
-use Rattle.routine.proofs.Trees.{Rising, self, unroll}
+use Rattle.routine.proofs.Trees.{Rising, self, unroll, In, in_under, under_in}
 use Rattle.routine.proofs.Once.{Once}
 use Rattle.rules.specs.Rules.{Mark, Signals, rule, ready, fire, effect_of, apply}
 use Rattle.rules.specs.Theorems.{Checked}
-use Rattle.rules.proofs.Frames.{In}
-use Rattle.rules.proofs.Steps.{In-dec}
-use Rattle.rules.proofs.Table.{in_under, under_in}
-use Rattle.rules.proofs.Tests.{Table}
-use Rattle.rules.proofs.Checked.{table}
-use Rattle.rules.proofs.Lowest.{lowest_first, by_rule}
+use Rattle.rules.proofs.StepsFromRoot.{In-dec}
+use Rattle.rules.proofs.TableTests.{Table}
+use Rattle.rules.proofs.TestsPassed.{table}
+use Rattle.rules.proofs.LowestByRule.{lowest_first, by_rule}
 use Rattle.count.specs.Machine.{own_signal_present}
 use Rattle.count.specs.Front.{entry, Guards, Waiters, front_after, QuietBelow}
 use Rattle.count.proofs.Aside.{rule_stays}

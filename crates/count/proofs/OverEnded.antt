@@ -3,14 +3,14 @@ use Rattle.std.proofs.Common.{◌≡◌, ℕ, Bool, true, false, ◌||◌, List,
 use Rattle.rules.specs.Rules.{Mark, Signals, Tree, leaf, one, two, Two, at, is_done, over, two_over}
 use Rattle.rules.specs.Rules.{ended, two_ended}
 use Rattle.rules.specs.Legal.{two_legal}
-use Rattle.rules.proofs.MarkedTrees.{live, Legal}
-use Rattle.rules.proofs.Shapes.{marked}
+use Rattle.rules.proofs.MarkedTrees.{live, LegalTree}
+use Rattle.rules.proofs.MarksIntoTrees.{marked}
 use Rattle.rules.proofs.Frames.{over_same}
-use Rattle.rules.proofs.Positions.{idle_over}
+use Rattle.rules.proofs.QuietInside.{idle_over}
 
 -- (of legal marks)
-pub over_ended : (t : Tree) (ms : List Mark) (e : Signals) → Legal (marked t ms) → over t ms ≡ true
-    → ended t ms e ≡ ms
+pub over_ended : (t : Tree) (ms : List Mark) (e : Signals) → LegalTree (marked t ms)
+    → over t ms ≡ true → ended t ms e ≡ ms
 over_ended (leaf n k) ms e g o = grind arith
 over_ended (one n k p) ms e g o = grind arith
 over_ended (two n k p q) ms e g o =

@@ -11,17 +11,16 @@ use Rattle.rules.specs.Rules.{one, two, at, begun, idled, over, ready, fire, end
 use Rattle.rules.specs.Legal.{Legal, keeps}
 use Rattle.rules.specs.Model.{first_marks, status_of}
 use Rattle.rules.specs.Theorems.{Checked, MarksStayLegal}
-use Rattle.rules.proofs.Shapes.{marked}
-use Rattle.rules.proofs.Frames.{In, idled_same, idled_kept, marked_rest}
-use Rattle.rules.proofs.FlatRuns.{same_marks}
-use Rattle.rules.proofs.Table.{sound}
-use Rattle.rules.proofs.Instants.{idle_blank}
-use Rattle.rules.proofs.Final.{to_legal}
-use Rattle.rules.proofs.Promises.{rows}
-use Rattle.rules.proofs.Checked.{table, of_routine}
-use Rattle.rules.proofs.Stays.{marks_stay_legal}
-use Rattle.rules.proofs.Inward.{own_rule}
-use Rattle.rules.proofs.Lowest.{by_rule}
+use Rattle.rules.proofs.Frames.{idled_kept}
+use Rattle.rules.proofs.StepsFromRoot.{ready_in}
+use Rattle.rules.proofs.Locality.{idled_idle}
+use Rattle.rules.proofs.IdleTrees.{all_idle}
+use Rattle.rules.proofs.SoundTrees.{sound}
+use Rattle.rules.proofs.LegalByStatement.{to_legal, rows}
+use Rattle.rules.proofs.TestsPassed.{table, of_routine}
+use Rattle.rules.proofs.MarksStayLegal.{marks_stay_legal}
+use Rattle.rules.proofs.NothingReadyInside.{own_rule}
+use Rattle.rules.proofs.LowestByRule.{by_rule}
 use Rattle.record.specs.declared.phases.Phase.{Phase}
 use Rattle.record.specs.Phases.{is_open, is_over, phase_of}
 use Rattle.record.proofs.Lists.{marks_many}
@@ -64,16 +63,12 @@ module _ (t : Rows) where
       → idled (tree_in t 0) ms ≡ replicate (length (kinds_in t)) Idle
   idle_all ms l =
       let ks = kinds_in t in
-      let T = table (signals_in t) ks checked in
-      let S = sound ks (signals_in t) T in
+      let S = sound ks (signals_in t) (table (signals_in t) ks checked) in
       let os = replicate (length ks) Idle in
       let u = tree_at ks 0 in
-      let e : marked u (idled u ms) ≡ marked u os =
-      idled_same (length ks) u ms S.distinct S.below l ∙ marked_rest u ms
-      ∙ sym (idle_blank u (length ks)) in
       let k : length (idled u ms) ≡ length ks = (idled_kept u ms).length ∙ l in
       ext_get_or Idle (idled u ms) os (k ∙ sym (length-replicate (length ks) Idle))
-      (λ i h. same_marks u (idled u ms) os e i (S.whole i (omega arith)))
+      (λ i h. idled_idle u ms i (S.whole i (omega arith)) ∙ sym (all_idle (length ks) i))
 
   -- begun from idle, the marks are the first ones
   pub begun_anew : (u v : Rows) → Marked t u (idled (tree_in t 0) (marks_in t))
@@ -127,13 +122,6 @@ pub rule_told : (t : Rows) (e : Signals) (i : ℕ) (was_present applied : Bool)
 rule_told t e i was_present applied h a =
     a ∙ ap (applies (tree_in t i) (marks_in t)) h ∙ sym (rule_same (tree_in t i) (marks_in t) e)
 
--- what is ready is a statement
-ready_in : (t : Tree) (ms : List Mark) (e : Signals) (k : ℕ) → ready t ms e k ≡ true → In t k
-ready_in (leaf n l) ms e k h = grind arith
-ready_in (one n l p) ms e k h = let f = ready_in p ms e k in grind arith
-ready_in (two n l p q) ms e k h = let f = ready_in p ms e k in let g = ready_in q ms e k in
-    grind arith
-
 -- the rule of a ready statement applies
 pub ready_applies : (t : Rows) (e : Signals) (k : ℕ) (was_present : Bool)
     → ready (tree_in t 0) (marks_in t) e k ≡ true → was_present ≡ own_signal_present (tree_in t k) e
@@ -145,10 +133,6 @@ ready_applies t e k was_present r h =
     ap (applies (tree_in t k) (marks_in t)) h ∙ sym (rule_same (tree_in t k) (marks_in t) e)
     ∙ own_rule ks T.shaped T.once (marks_in t) e k T.some_row
     (ready_in (tree_in t 0) (marks_in t) e k r) r
-
--- a Boolean is not both
-pub never : (b : Bool) → b ≡ true → b ≡ false → ⊥
-never b p q = true≢false (sym p ∙ q)
 
 -- and after a step, in the phase of an open instant
 pub step_sound : (p : Phase) (t u : Rows) (e : Signals) (k : ℕ) → is_open p ≡ true

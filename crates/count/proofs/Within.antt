@@ -8,11 +8,11 @@ use Rattle.routine.specs.Kinds.{Leaf, loop, kill, local, Two, sequence, parallel
 use Rattle.routine.specs.Kinds.{no_part, one_part, two_parts, shape_at}
 use Rattle.routine.specs.Tree.{node, tree_at}
 use Rattle.routine.proofs.Trees.{Part, Rising, Under, self, part, unroll, under_below, under_trans}
+use Rattle.routine.proofs.Trees.{In, in_under, under_in}
 use Rattle.routine.proofs.Once.{Once, disjoint}
 use Rattle.rules.specs.Rules.{Mark, Idle, UnderWay, Done, Signals, Tree, at, begun, idled, over}
 use Rattle.rules.specs.Rules.{rule, leaf_rule, one_rule, two_rule, fire, one_fired}
-use Rattle.rules.proofs.Frames.{In, begun_kept}
-use Rattle.rules.proofs.Table.{in_under, under_in}
+use Rattle.rules.proofs.Frames.{begun_kept}
 use Rattle.rules.proofs.Locality.{idled_idle, over_idle, rule_idle, rule_local}
 use Rattle.count.specs.Front.{front_after}
 use Rattle.count.proofs.Aside.{parallel_rests}

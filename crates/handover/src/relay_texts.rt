@@ -1,8 +1,6 @@
-ghost use Rattle.std.specs.Prelude.{◌≡◌, ◌<◌, ◌++◌, OnOk, string_bytes};
+ghost use Rattle.std.specs.Prelude.{◌≡◌, ◌<◌, ◌++◌, ◌==◌, OnOk, string_bytes, count_by};
 ghost use Rattle.std.specs.List.{flat_map};
-ghost use Rattle.std.proofs.Math.Decide.{ℕ_discrete};
-ghost use Rattle.rules.specs.Model.{each_below};
-ghost use Rattle.rules.specs.Runs.{occurrences};
+ghost use Rattle.rules.specs.Model.{times_of};
 ghost use Rattle.rules.specs.Texts.{digit, hex};
 ghost use Rattle.relay.specs.ClosedInstants.{closed_as};
 ghost use Rattle.relay.specs.KeptEvents.{tells};
@@ -116,7 +114,7 @@ pub(crate) fn write_event(
 
 // How often the statement is among those that were stepped.
 fn how_often(stepped: &[usize], statement: usize) -> usize
-    ensures { result ≡ occurrences ℕ_discrete statement stepped.now }
+    ensures { result ≡ count_by (λ k. k == statement) stepped.now }
 {
     stepped.iter().filter(|&&k| k == statement).count()
 }
@@ -124,8 +122,7 @@ fn how_often(stepped: &[usize], statement: usize) -> usize
 // How often each of so many statements was stepped.
 fn write_times(out: &mut String, statements: usize, stepped: &[usize]) -> Result<(), AllocError>
     ensures { OnOk result (string_bytes out.new
-        ≡ string_bytes out.old
-        ++ numbers_text (each_below (λ i. occurrences ℕ_discrete i stepped.now) statements)) }
+        ≡ string_bytes out.old ++ numbers_text (times_of statements stepped.now)) }
 {
     for statement in 0..statements {
         write!(out, " {}", how_often(stepped, statement))?;

@@ -10,8 +10,8 @@ use Rattle.routine.specs.declared.kinds.SignalKind.{SignalKind}
 use Rattle.rules.specs.Rules.{Mark}
 use Rattle.rules.specs.Model.{Outcome, instant, instants_from, first_marks, model}
 use Rattle.rules.specs.Theorems.{Checked}
-use Rattle.rules.proofs.Stays.{marks_stay_legal}
-use Rattle.count.proofs.Sound.{never}
+use Rattle.rules.proofs.MarksStayLegal.{marks_stay_legal}
+use Rattle.std.proofs.lemmas.Bool.{both_ways}
 use Rattle.relay.specs.Asked.{Asked}
 use Rattle.record.specs.State.{State}
 use Rattle.count.specs.Calls.{new_state}
@@ -27,7 +27,7 @@ untaken (begins w) ps t = (λ h. (cc), t)
 untaken (steps k) ps t = (λ h. (cc), t)
 untaken (closes c ms) ps t = (λ h. (cc), t)
 untaken (reacts w c ms v) ps t = (λ h. (cc), t)
-untaken takes_over ps t = absurd (never true refl t)
+untaken takes_over ps t = absurd (both_ways true t refl)
 untaken (refuses r) ps t = (λ h. (cc), t)
 
 -- the trace of two lists of calls, one after the other

@@ -3,7 +3,7 @@ use Rattle.std.proofs.Common.{◌≡◌, ◌≢◌, ℕ, zero, suc, ◌+◌, ◌
 use Rattle.std.proofs.Common.{[], ◌∷◌, ◌++◌, length, take, map, Some, None, Option, sym, refl, ap}
 use Rattle.std.proofs.Common.{◌∙◌, subst, ap₂, arith}
 use Rattle.std.specs.Prelude.{slice_get}
-use Rattle.std.proofs.lemmas.Bool.{lt-ltb}
+use Rattle.std.proofs.lemmas.Bool.{lt-ltb, both_ways}
 use Rattle.std.proofs.lemmas.List.{length_push}
 use Rattle.std.proofs.lemmas.Option.{same_Some}
 use Rattle.signals.specs.Sets.{word_set}
@@ -18,9 +18,10 @@ use Rattle.rules.specs.Legal.{Legal}
 use Rattle.rules.specs.Model.{Config, Ready, stepped, settled, path, enough, Outcome, instant}
 use Rattle.rules.specs.Model.{instants_from, closed}
 use Rattle.rules.specs.Theorems.{Checked}
-use Rattle.rules.proofs.Promises.{instant_ends, ready_below}
-use Rattle.rules.proofs.Stays.{marks_stay_legal}
-use Rattle.rules.proofs.Sums.{same_outcome}
+use Rattle.rules.proofs.InstantEnds.{instant_ends}
+use Rattle.rules.proofs.StepsOnTrees.{ready_below}
+use Rattle.rules.proofs.MarksStayLegal.{marks_stay_legal}
+use Rattle.rules.proofs.StepsAddUp.{same_outcome}
 use Rattle.record.specs.declared.phases.Phase.{Phase}
 use Rattle.record.specs.declared.phases.Phase.TheVariants.{Resting, Open, Over}
 use Rattle.record.specs.Phases.{is_open}
@@ -29,7 +30,7 @@ use Rattle.record.specs.Taking.{taking_refusal}
 use Rattle.count.specs.Calls.{after, steps_from, one_more, phase_after, begin_by, begin_refusal}
 use Rattle.count.specs.Calls.{begin_state, step_refusal, step_state, close_refusal, close_state}
 use Rattle.count.specs.Calls.{closing, react_closing, react_state}
-use Rattle.count.proofs.Sound.{never, same_phase, after_not_open}
+use Rattle.count.proofs.Sound.{same_phase, after_not_open}
 use Rattle.relay.specs.Asked.{Asked, begin, step, close, react, take_over}
 use Rattle.relay.specs.History.{Transition, begins, steps, closes, reacts, takes_over, if_accepted}
 use Rattle.relay.specs.History.{transition_of, after_call}
@@ -166,11 +167,12 @@ module _ (gs : List SignalKind) (ks : List Kind) (C : Checked gs ks) (few : leng
           stands = inside refl ((marks_stay_legal gs ks C).begins s.marks L) still refl;
           before = λ ps F. F;
         }
-    by_begin word (inside o L r e) h = absurd (never _ o (begun_resting s.phase gs s.closed word h))
+    by_begin word (inside o L r e) h =
+        absurd (both_ways _ (begun_resting s.phase gs s.closed word h) o)
 
     by_step : (k : ℕ) {ms : List Mark} {ws : List ℕ} → Stands s v ms ws → step_refusal ks s k ≡ None
         → Leads s v (step_state ks s k) (steps k) ms ws
-    by_step k (between o L e) h = absurd (never _ (was_ready s.phase ks s k h).0 o)
+    by_step k (between o L e) h = absurd (both_ways _ o (was_ready s.phase ks s k h).0)
     by_step k (inside {ms = ms} {word = word} o L r e) h =
         let l = few_steps ms word L r in
         record {
@@ -184,13 +186,13 @@ module _ (gs : List SignalKind) (ks : List Kind) (C : Checked gs ks) (few : leng
 
     by_close : {ms : List Mark} {ws : List ℕ} → Stands s v ms ws → close_refusal ks s ≡ None
         → Leads s v (close_state ks s) (closes (closing gs ks s) (close_state ks s).marks) ms ws
-    by_close (between o L e) h = absurd (never _ (none_ready s.phase ks s h).0 o)
+    by_close (between o L e) h = absurd (both_ways _ o (none_ready s.phase ks s h).0)
     by_close (inside {ms = ms} {word = word} o L r e) h =
         let x : Config = (s.marks, s.present) in
         let none = none_below (ready (tree_at ks 0) x.0 x.1) (length ks)
         (none_ready s.phase ks s h).1 in
         let quiet : Quiet (Ready ks) x =
-        λ i y. never _ y (none i (ready_below gs ks C i x.0 x.1 y)) in
+        λ i y. both_ways _ (none i (ready_below gs ks C i x.0 x.1 y)) y in
         let same = ap (λ (n : ℕ). record (closed gs ks x v) { steps = n }) e
         ∙ same_outcome gs ks C ms word x v L r quiet in
         record {
@@ -222,7 +224,8 @@ module _ (gs : List SignalKind) (ks : List Kind) (C : Checked gs ks) (few : leng
               (instant gs ks s.marks word) L' refl refl (accepted ps)
               (closed_instants (length ks) [] ps) (left_open [] ps) F;
         }
-    by_react word (inside o L r e) h = absurd (never _ o (begun_resting s.phase gs s.closed word h))
+    by_react word (inside o L r e) h =
+        absurd (both_ways _ (begun_resting s.phase gs s.closed word h) o)
 
     -- a refused call leads to s itself
     unless_refused : (t : State) (p : Transition)

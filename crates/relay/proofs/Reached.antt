@@ -2,7 +2,7 @@
 use Rattle.std.proofs.Common.{◌≡◌, ℕ, ◌+◌, ◌<◌, ◌≤◌, Bool, true, false, cond, List, [], ◌∷◌, length}
 use Rattle.std.proofs.Common.{Some, None, Option, sym, refl, ap, ◌∙◌, subst, arith, zero, suc}
 use Rattle.std.proofs.Common.{nat_lt}
-use Rattle.std.proofs.lemmas.Bool.{eqb-false, ltb-true}
+use Rattle.std.proofs.lemmas.Bool.{eqb-false, ltb-true, both_ways}
 use Rattle.std.proofs.Math.ListN.{length-set}
 use Rattle.signals.specs.Sets.{empty, word_set}
 use Rattle.signals.specs.Sizes.{length-word_set}
@@ -20,10 +20,9 @@ use Rattle.rules.specs.Rules.{Tree, over, ended}
 use Rattle.rules.specs.Legal.{Legal}
 use Rattle.rules.specs.Model.{Config, settled, enough, status_of}
 use Rattle.rules.specs.Theorems.{Checked}
-use Rattle.rules.proofs.Checked.{table}
-use Rattle.rules.proofs.Final.{to_legal}
-use Rattle.rules.proofs.Promises.{rows}
-use Rattle.rules.proofs.Stays.{marks_stay_legal}
+use Rattle.rules.proofs.TestsPassed.{table}
+use Rattle.rules.proofs.LegalByStatement.{to_legal, rows}
+use Rattle.rules.proofs.MarksStayLegal.{marks_stay_legal}
 use Rattle.record.specs.declared.phases.Phase.{Phase}
 use Rattle.record.specs.declared.phases.Phase.TheVariants.{Resting, Open, Over}
 use Rattle.record.specs.Phases.{is_open, is_over, phase_of}
@@ -37,7 +36,7 @@ use Rattle.count.specs.Calls.{react_state, new_state}
 use Rattle.count.specs.Machine.{kind_effect}
 use Rattle.count.proofs.Presence.{within_empty, within_step, within_word, fits_at}
 use Rattle.count.proofs.OverEnded.{over_ended}
-use Rattle.count.proofs.Sound.{never, same_phase, after_not_open, over_after}
+use Rattle.count.proofs.Sound.{same_phase, after_not_open, over_after}
 use Rattle.relay.specs.Asked.{Asked, begin, step, close, react, take_over, of_bytes, OfBytes}
 use Rattle.relay.specs.History.{after_call, after_calls}
 use Rattle.relay.proofs.AcceptedCalls.{was_ready, none_ready, never_refused}
@@ -57,9 +56,9 @@ may_begin gs Open n w h = never_refused h
 may_begin gs Over n w h = never_refused h
 
 open_not_over : (p : Phase) → is_open p ≡ true → is_over p ≡ true → ⊥
-open_not_over Open o v = never true refl (sym v)
-open_not_over Resting o v = never true refl (sym o)
-open_not_over Over o v = never true refl (sym o)
+open_not_over Open o v = both_ways true (sym v) refl
+open_not_over Resting o v = both_ways true (sym o) refl
+open_not_over Over o v = both_ways true (sym o) refl
 
 one_more_small : (b : Bool) (n : ℕ) → (b ≡ true → n < 65535) → n < 65536 → cond b (n + 1) n < 65536
 one_more_small true n f l = let k = f refl in omega arith
@@ -106,7 +105,7 @@ module _ (gs : List SignalKind) (ks : List Kind) (C : Checked gs ks) (few : leng
   sound_start =
       record {
         legal = (marks_stay_legal gs ks C).starts;
-        finished = λ v. absurd (never true refl (sym v));
+        finished = λ v. absurd (both_ways true (sym v) refl);
         no_steps = λ o. refl;
         no_signals = λ o. refl;
         within = within_empty (length gs) empty refl;
@@ -125,9 +124,9 @@ module _ (gs : List SignalKind) (ks : List Kind) (C : Checked gs ks) (few : leng
       record {
         legal = (marks_stay_legal gs ks C).begins s.marks
             (subst (λ b. Legal b ks s.marks) m.0 S.legal);
-        finished = λ v. absurd (never true refl (sym v));
-        no_steps = λ o. absurd (never true refl o);
-        no_signals = λ o. absurd (never true refl o);
+        finished = λ v. absurd (both_ways true (sym v) refl);
+        no_steps = λ o. absurd (both_ways true o refl);
+        no_signals = λ o. absurd (both_ways true o refl);
         within = within_word gs word m.1.1;
         sized = length-word_set word;
         room = λ o. omega arith;
@@ -143,8 +142,8 @@ module _ (gs : List SignalKind) (ks : List Kind) (C : Checked gs ks) (few : leng
             ((marks_stay_legal gs ks C).steps (s.marks, s.present) k
             (subst (λ b. Legal b ks s.marks) r.0 S.legal) r.1);
         finished = λ v. absurd (open_not_over s.phase r.0 v);
-        no_steps = λ o. absurd (never _ r.0 o);
-        no_signals = λ o. absurd (never _ r.0 o);
+        no_steps = λ o. absurd (both_ways _ o r.0);
+        no_signals = λ o. absurd (both_ways _ o r.0);
         within = subst (λ (x : Effect). Within (length gs) (apply x s.present))
             (effect_at ks k C.some)
             (within_step (length gs) (length ks) k (kind_at ks k) s.present
@@ -178,7 +177,7 @@ module _ (gs : List SignalKind) (ks : List Kind) (C : Checked gs ks) (few : leng
         no_signals = λ o. refl;
         within = within_empty (length gs) empty refl;
         sized = length-empty;
-        room = λ o. absurd (never _ o (after_not_open b));
+        room = λ o. absurd (both_ways _ (after_not_open b) o);
         closed_fits = omega arith;
         steps_fit = omega arith;
       }

@@ -1,12 +1,10 @@
 -- the closed instants of a trace: what it is that they are the model's, and that the words decide
 use Rattle.std.specs.Prelude.{◌≡◌, ℕ, ◌+◌, ◌*◌, ◌≤◌, Bool, true, false, List, [], ◌∷◌, ◌++◌, length}
 use Rattle.std.specs.Prelude.{take, map, Some, slice_get}
-use Rattle.std.proofs.Math.Decide.{ℕ_discrete}
 use Rattle.routine.specs.declared.kinds.Kind.{Kind}
 use Rattle.routine.specs.declared.kinds.SignalKind.{SignalKind}
 use Rattle.rules.specs.Rules.{Mark}
-use Rattle.rules.specs.Runs.{occurrences}
-use Rattle.rules.specs.Model.{Outcome, each_below, model}
+use Rattle.rules.specs.Model.{Outcome, times_of, model}
 use Rattle.count.specs.declared.answers.Closing.{Closing}
 use Rattle.relay.specs.History.{Transition, begins, steps, closes, reacts, takes_over, refuses}
 
@@ -48,7 +46,7 @@ closed_as n c ms v =
       outcome = record {
         outputs = c.outputs;
         status = c.status;
-        times = each_below (λ i. occurrences ℕ_discrete i v) n;
+        times = times_of n v;
         steps = c.steps;
         marks = ms;
       };

@@ -1,26 +1,26 @@
--- what a writer leaves as it is
-use Rattle.std.proofs.Common.{◌≡◌, ℕ, ◌<◌, List, length, set, sym, refl, ap, ◌∙◌, subst, inl, inr}
-use Rattle.std.proofs.Common.{arith, length-set, get_or-set_other, get_or-set_same}
-use Rattle.rules.proofs.MarkedTrees.{Mark, Idle, Waiting, UnderWay}
-use Rattle.rules.proofs.MarkedTrees.{mleaf, begin, rest, begun as first}
-use Rattle.rules.proofs.ByNumber.{Has, Distinct}
-use Rattle.rules.proofs.ByNumber.{over as over_t}
-use Rattle.rules.proofs.Shapes.{Tree, leaf, one, two, blank, at, marked, begun, idled, over}
+-- what a writer of marks leaves as it is
+use Rattle.std.proofs.Common.{ℕ, List, length, ◌≡◌, set, length-set, get_or-set_other, subst, sym}
+use Rattle.std.proofs.Common.{arith, ap, refl, inl, inr, ◌<◌, get_or-set_same, ◌∙◌}
+use Rattle.routine.proofs.Once.{Distinct}
+use Rattle.routine.proofs.Trees.{In}
+use Rattle.rules.specs.Rules.{Mark, at, Idle, Tree, begun, leaf, one, UnderWay, Waiting, two, idled}
+use Rattle.rules.specs.Rules.{leaf_begun, over}
+use Rattle.rules.proofs.MarkedTrees.{mleaf, begin, rest, is_over}
+use Rattle.rules.proofs.MarksIntoTrees.{marked}
 
 -- ns has the marks of ms but at numbers of which P holds
 pub record Kept (P : ℕ → Type 0) (ms ns : List Mark) : Type 0 where
   pub length : length ns ≡ length ms
   pub other : (i : ℕ) → ¬ (P i) → at ns i ≡ at ms i
 
-abbrev pub In : Tree → ℕ → Type 0
-In t i = Has (blank t) i
-
-pub kept_set : (P : ℕ → Type 0) (ms : List Mark) (n : ℕ) (m : Mark) → P n → Kept P ms (set ms n m)
+-- a write at n
+kept_set : (P : ℕ → Type 0) (ms : List Mark) (n : ℕ) (m : Mark) → P n → Kept P ms (set ms n m)
 kept_set P ms n m h = record {
   length = length-set ms n m;
   other = λ i d. get_or-set_other ms n i m Idle (λ e. d (subst P (sym e) h));
 }
 
+-- to begin a tree, and to idle it, changes marks inside it alone
 pub begun_kept : (t : Tree) (ms : List Mark) → Kept (In t) ms (begun t ms)
 begun_kept (leaf n k) ms = grind (arith, length-set, get_or-set_other)
 begun_kept (one n k p) ms = let h = begun_kept p (set ms n UnderWay) in
@@ -39,7 +39,8 @@ idled_kept (two n k p q) ms =
     let g = idled_kept q (idled p (set ms n Idle)) in
     grind (arith, length-set, get_or-set_other)
 
-pub frame : (t : Tree) (ms ns : List Mark) → ((i : ℕ) → In t i → at ns i ≡ at ms i)
+-- equal marks inside make equal trees
+frame : (t : Tree) (ms ns : List Mark) → ((i : ℕ) → In t i → at ns i ≡ at ms i)
     → marked t ns ≡ marked t ms
 frame (leaf n k) ms ns h = ap (mleaf n k) (h n refl)
 frame (one n k p) ms ns h = let a = h n (inl refl) in let b = frame p ms ns (λ i x. h i (inr x)) in
@@ -55,19 +56,22 @@ pub unseen : {P : ℕ → Type 0} (t : Tree) (ms ns : List Mark) → Kept P ms n
     → ((i : ℕ) → In t i → ¬ (P i)) → marked t ns ≡ marked t ms
 unseen t ms ns k d = frame t ms ns (λ i h. k.other i (d i h))
 
+-- nor does a write at a number outside it
 pub unset : (t : Tree) (ms : List Mark) (n : ℕ) (m : Mark) → ¬ (In t n)
     → marked t (set ms n m) ≡ marked t ms
 unset t ms n m d = unseen {P = λ i. i ≡ n} t ms (set ms n m) (kept_set (λ i. i ≡ n) ms n m refl)
     (λ i h e. d (subst (In t) e h))
 
 module _ (N : ℕ) where
+  -- the numbers of a tree are below N
   abbrev pub Fits : Tree → Type 0
   Fits t = (i : ℕ) → In t i → i < N
 
-  pub begun_same : (t : Tree) (ms : List Mark) → Distinct (blank t) → Fits t → length ms ≡ N
+  -- to begin a tree over a list is to begin the tree with its marks
+  pub begun_same : (t : Tree) (ms : List Mark) → Distinct t → Fits t → length ms ≡ N
       → marked t (begun t ms) ≡ begin (marked t ms)
   begun_same (leaf n k) ms d f e =
-      ap (mleaf n k) (get_or-set_same ms n (first k) Idle (let a = f n refl in omega arith))
+      ap (mleaf n k) (get_or-set_same ms n (leaf_begun k) Idle (let a = f n refl in omega arith))
   begun_same (one n k p) ms d f e =
       let l : n < length ms = let a = f n (inl refl) in omega arith in
       let a = λ (m : Mark). get_or-set_same ms n m Idle l in
@@ -91,7 +95,8 @@ module _ (N : ℕ) where
       let u' = unseen p (begun p ns) (begun q (begun p ns)) (begun_kept q (begun p ns)) d.2 in
       grind arith
 
-  pub idled_same : (t : Tree) (ms : List Mark) → Distinct (blank t) → Fits t → length ms ≡ N
+  -- and so it is to idle it
+  pub idled_same : (t : Tree) (ms : List Mark) → Distinct t → Fits t → length ms ≡ N
       → marked t (idled t ms) ≡ rest (marked t ms)
   idled_same (leaf n k) ms d f e =
       ap (mleaf n k) (get_or-set_same ms n Idle Idle (let a = f n refl in omega arith))
@@ -116,12 +121,8 @@ module _ (N : ℕ) where
       let u' = unseen p (idled p ns) (idled q (idled p ns)) (idled_kept q (idled p ns)) d.2 in
       cc
 
-pub over_same : (t : Tree) (ms : List Mark) → over t ms ≡ over_t (marked t ms)
+-- and whether it is over
+pub over_same : (t : Tree) (ms : List Mark) → over t ms ≡ is_over (marked t ms)
 over_same (leaf n k) ms = refl
 over_same (one n k p) ms = refl
 over_same (two n k p q) ms = let a = over_same p ms in let b = over_same q ms in cc
-
-pub marked_rest : (t : Tree) (ms : List Mark) → rest (marked t ms) ≡ blank t
-marked_rest (leaf n k) ms = refl
-marked_rest (one n k p) ms = let a = marked_rest p ms in cc
-marked_rest (two n k p q) ms = let a = marked_rest p ms in let b = marked_rest q ms in cc

@@ -1,11 +1,12 @@
 -- a statement's rule looks at the marks of its own tree alone; where all of that is idle no rule
 -- applies
-use Rattle.std.proofs.Common.{◌≡◌, ℕ, zero, suc, Bool, false, ◌||◌, ◌⊎◌, List, [], ◌∷◌, set, get_or}
-use Rattle.std.proofs.Common.{refl, sym, ap, ◌∙◌, subst, ap₂, inl, inr, arith}
-use Rattle.rules.specs.Rules.{Mark, Idle, Signals, Leaf, One, Two, Tree, leaf, one, two, at}
-use Rattle.rules.specs.Rules.{is_done, idled, over, two_over, leaf_rule, one_rule, two_rule, rule}
-use Rattle.rules.proofs.Frames.{In, idled_kept}
-use Rattle.rules.proofs.Steps.{In-dec}
+use Rattle.std.proofs.Common.{List, ℕ, get_or, set, ◌≡◌, [], zero, arith, suc, ◌∷◌, subst, sym, inl}
+use Rattle.std.proofs.Common.{inr, ◌∙◌, ◌⊎◌, false, ap, refl, Bool, ◌||◌, ap₂}
+use Rattle.routine.proofs.Trees.{In}
+use Rattle.rules.specs.Rules.{Tree, Mark, at, idled, Idle, leaf, one, two, over, is_done, Two}
+use Rattle.rules.specs.Rules.{two_over, Signals, rule, Leaf, leaf_rule, One, one_rule, two_rule}
+use Rattle.rules.proofs.Frames.{idled_kept}
+use Rattle.rules.proofs.StepsFromRoot.{In-dec}
 
 -- what is set to the default is the default there, also past the end
 pub set_default : {A : Type 0} (d : A) (xs : List A) (n : ℕ) → get_or (set xs n d) n d ≡ d
@@ -56,6 +57,7 @@ over_idle (two n k p q) ms h =
         → (is_done m || two_over k b c) ≡ false
     none k m b c x y z = grind arith
 
+-- nor does its rule apply
 pub rule_idle : (t : Tree) (ms : List Mark) (e : Signals) → ((j : ℕ) → In t j → at ms j ≡ Idle)
     → rule t ms e ≡ false
 rule_idle (leaf n k) ms e h = none k (at ms n) (h n refl)
@@ -84,6 +86,7 @@ over_local (two n k p q) ms ns h =
     let c = over_local q ms ns (λ j u. h j (inr (inr u))) in
     cc
 
+-- and the same rule applies
 pub rule_local : (t : Tree) (ms ns : List Mark) (e : Signals)
     → ((j : ℕ) → In t j → at ns j ≡ at ms j) → rule t ns e ≡ rule t ms e
 rule_local (leaf n k) ms ns e h = ap (λ (m : Mark). leaf_rule e m k) (h n refl)

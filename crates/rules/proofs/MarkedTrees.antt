@@ -1,24 +1,31 @@
--- the language: statement trees that carry their marks
-use Rattle.std.proofs.Common.{◌≡◌, ℕ, Bool, true, false, ◌⊎◌, get_or, refl}
-pub use Rattle.rules.specs.Rules.{Mark, Idle, Waiting, UnderWay, Done, Leaf, nothing, stop, emit}
-pub use Rattle.rules.specs.Rules.{wait, One, loop, kill, local, Two, sequence, parallel, when}
-pub use Rattle.rules.specs.Rules.{Signals, Effect, no_effect, raises, drops, leaf_effect}
-pub use Rattle.rules.specs.Rules.{one_effect, apply, is_live, leaf_begun as begun}
-pub use Rattle.rules.specs.Legal.{leaf_legal, one_legal, two_legal}
+-- the rules on statement trees that carry their marks: a step is told by its position
+use Rattle.std.proofs.Common.{ℕ, ◌⊎◌, Bool, ◌||◌, get_or, false, ◌≡◌, true}
+use Rattle.rules.specs.Legal.{leaf_legal, one_legal, two_legal}
+use Rattle.rules.specs.Rules.{Leaf, Mark, One, Two, Tree, leaf, one, two, leaf_begun, loop, Waiting}
+use Rattle.rules.specs.Rules.{kill, UnderWay, local, sequence, parallel, when, Idle, Done, is_done}
+use Rattle.rules.specs.Rules.{two_over, Signals, nothing, stop, emit, wait, Effect, leaf_effect}
+use Rattle.rules.specs.Rules.{no_effect, one_effect, is_live}
 
+-- n: the number, k: what stands there, m: its mark
 pub data Marked : Type 0 where
   mleaf : ℕ → Leaf → Mark → Marked
   mone : ℕ → One → Mark → Marked → Marked
   mtwo : ℕ → Two → Mark → Marked → Marked → Marked
 
+-- the tree without its marks
+abbrev pub unmarked : Marked → Tree
+unmarked (mleaf n k m) = leaf n k
+unmarked (mone n k m p) = one n k (unmarked p)
+unmarked (mtwo n k m p q) = two n k (unmarked p) (unmarked q)
+
 -- where a node stands in a tree
 pub data Pos : Type 0 where
   here : Pos
   left right : Pos → Pos
-  deriving Discrete as Pos-discrete
 
+-- to begin a tree, and to idle it
 abbrev pub begin : Marked → Marked
-begin (mleaf n k m) = mleaf n k (begun k)
+begin (mleaf n k m) = mleaf n k (leaf_begun k)
 begin (mone n loop m p) = mone n loop Waiting p
 begin (mone n (kill s) m p) = mone n (kill s) UnderWay (begin p)
 begin (mone n (local s) m p) = mone n (local s) Waiting (begin p)
@@ -31,6 +38,7 @@ rest (mleaf n k m) = mleaf n k Idle
 rest (mone n k m p) = mone n k Idle (rest p)
 rest (mtwo n k m p q) = mtwo n k Idle (rest p) (rest q)
 
+-- what is over, by its marks
 abbrev pub IsDone : Mark → Type 0
 IsDone Idle = ⊥
 IsDone Waiting = ⊥
@@ -44,6 +52,13 @@ Over (mtwo n sequence m p q) = Over q
 Over (mtwo n parallel m p q) = Over p × Over q
 Over (mtwo n (when s) m p q) = Over p ⊎ Over q
 
+-- the same as a test
+abbrev pub is_over : Marked → Bool
+is_over (mleaf n k m) = is_done m
+is_over (mone n k m p) = is_done m
+is_over (mtwo n k m p q) = is_done m || two_over k (is_over p) (is_over q)
+
+-- signal s is present
 abbrev pub Present : Signals → ℕ → Type 0
 Present e s = get_or e s false ≡ true
 
@@ -57,6 +72,7 @@ ReadyLeaf e Waiting (wait s) = Present e s
 ReadyLeaf e UnderWay k = ⊥
 ReadyLeaf e Done k = ⊥
 
+-- of one part p
 abbrev pub ReadyOne : Mark → One → Marked → Type 0
 ReadyOne Idle k p = ⊥
 ReadyOne Waiting loop p = Unit {0}
@@ -65,6 +81,7 @@ ReadyOne Waiting (local s) p = Unit {0}
 ReadyOne UnderWay k p = Over p
 ReadyOne Done k p = ⊥
 
+-- of two parts, p the first
 abbrev pub ReadyTwo : Signals → Mark → Two → Marked → Type 0
 ReadyTwo e Idle k p = ⊥
 ReadyTwo e Waiting sequence p = ⊥
@@ -84,17 +101,19 @@ Opened Waiting (local s) = ⊥
 Opened UnderWay k = Unit {0}
 Opened Done k = Unit {0}
 
-abbrev pub Ready : Signals → Marked → Pos → Type 0
-Ready e (mleaf n k m) here = ReadyLeaf e m k
-Ready e (mleaf n k m) (left x) = ⊥
-Ready e (mleaf n k m) (right x) = ⊥
-Ready e (mone n k m p) here = ReadyOne m k p
-Ready e (mone n k m p) (left x) = Opened m k × Ready e p x
-Ready e (mone n k m p) (right x) = ⊥
-Ready e (mtwo n k m p q) here = ReadyTwo e m k p
-Ready e (mtwo n k m p q) (left x) = Ready e p x
-Ready e (mtwo n k m p q) (right x) = Ready e q x
+-- what stands at a position is ready
+abbrev pub ReadyAt : Signals → Marked → Pos → Type 0
+ReadyAt e (mleaf n k m) here = ReadyLeaf e m k
+ReadyAt e (mleaf n k m) (left x) = ⊥
+ReadyAt e (mleaf n k m) (right x) = ⊥
+ReadyAt e (mone n k m p) here = ReadyOne m k p
+ReadyAt e (mone n k m p) (left x) = Opened m k × ReadyAt e p x
+ReadyAt e (mone n k m p) (right x) = ⊥
+ReadyAt e (mtwo n k m p q) here = ReadyTwo e m k p
+ReadyAt e (mtwo n k m p q) (left x) = ReadyAt e p x
+ReadyAt e (mtwo n k m p q) (right x) = ReadyAt e q x
 
+-- the step at a position: the tree after it
 abbrev pub after_one : ℕ → Mark → One → Marked → Marked
 after_one n Idle k p = mone n k Idle p
 after_one n Waiting loop p = mone n loop UnderWay (begin p)
@@ -121,100 +140,26 @@ after (mtwo n k m p q) here = after_two n m k p q
 after (mtwo n k m p q) (left x) = mtwo n k m (after p x) q
 after (mtwo n k m p q) (right x) = mtwo n k m p (after q x)
 
-abbrev pub eff : Marked → Pos → Effect
-eff (mleaf n k m) here = leaf_effect k
-eff (mleaf n k m) (left x) = no_effect
-eff (mleaf n k m) (right x) = no_effect
-eff (mone n k m p) here = one_effect k
-eff (mone n k m p) (left x) = eff p x
-eff (mone n k m p) (right x) = no_effect
-eff (mtwo n k m p q) here = no_effect
-eff (mtwo n k m p q) (left x) = eff p x
-eff (mtwo n k m p q) (right x) = eff q x
+-- and its effect
+abbrev pub effect_at : Marked → Pos → Effect
+effect_at (mleaf n k m) here = leaf_effect k
+effect_at (mleaf n k m) (left x) = no_effect
+effect_at (mleaf n k m) (right x) = no_effect
+effect_at (mone n k m p) here = one_effect k
+effect_at (mone n k m p) (left x) = effect_at p x
+effect_at (mone n k m p) (right x) = no_effect
+effect_at (mtwo n k m p q) here = no_effect
+effect_at (mtwo n k m p q) (left x) = effect_at p x
+effect_at (mtwo n k m p q) (right x) = effect_at q x
 
+-- whether it is live, and whether its marks are legal
 abbrev pub live : Marked → Bool
 live (mleaf n k m) = is_live m
 live (mone n k m p) = is_live m
 live (mtwo n k m p q) = is_live m
 
-abbrev pub Legal : Marked → Type 0
-Legal (mleaf n k m) = leaf_legal m k ≡ true
-Legal (mone n k m p) = (one_legal m k (live p) ≡ true) × Legal p
-Legal (mtwo n k m p q) = (two_legal m k (live p) (live q) ≡ true) × Legal p × Legal q
-
--- scopes: what a tree binds, and what it names
-abbrev pub BindsOne : One → ℕ → Type 0
-BindsOne loop s = ⊥
-BindsOne (kill a) s = ⊥
-BindsOne (local a) s = a ≡ s
-
-abbrev pub Binds : Marked → ℕ → Type 0
-Binds (mleaf n k m) s = ⊥
-Binds (mone n k m p) s = BindsOne k s ⊎ Binds p s
-Binds (mtwo n k m p q) s = Binds p s ⊎ Binds q s
-
-abbrev pub NamesLeaf : Leaf → ℕ → Type 0
-NamesLeaf nothing s = ⊥
-NamesLeaf stop s = ⊥
-NamesLeaf (emit a) s = a ≡ s
-NamesLeaf (wait a) s = a ≡ s
-
-abbrev pub NamesOne : One → ℕ → Type 0
-NamesOne loop s = ⊥
-NamesOne (kill a) s = a ≡ s
-NamesOne (local a) s = a ≡ s
-
-abbrev pub NamesTwo : Two → ℕ → Type 0
-NamesTwo sequence s = ⊥
-NamesTwo parallel s = ⊥
-NamesTwo (when a) s = a ≡ s
-
-abbrev pub Names : Marked → ℕ → Type 0
-Names (mleaf n k m) s = NamesLeaf k s
-Names (mone n k m p) s = NamesOne k s ⊎ Names p s
-Names (mtwo n k m p q) s = NamesTwo k s ⊎ (Names p s ⊎ Names q s)
-
--- what is local to a part is named neither beside that part nor above it
-abbrev pub Scoped : Marked → Type 0
-Scoped (mleaf n k m) = Unit {0}
-Scoped (mone n k m p) = ((s : ℕ) → Binds p s → ¬ (NamesOne k s)) × Scoped p
-Scoped (mtwo n k m p q) =
-    ((s : ℕ) → Binds p s → ¬ (NamesTwo k s ⊎ Names q s))
-    × ((s : ℕ) → Binds q s → ¬ (NamesTwo k s ⊎ Names p s)) × Scoped p × Scoped q
-
--- the whole state
-abbrev pub State : Type 0
-State = Marked × Signals
-
-abbrev pub Can : State → Pos → Type 0
-Can s x = Ready s.1 s.0 x
-
-abbrev pub next : State → Pos → State
-next s x = (after s.0 x, apply (eff s.0 x) s.1)
-
--- scopes are a matter of the tree without its marks
-abbrev pub Fine : State → Type 0
-Fine s = Legal s.0 × Scoped (rest s.0)
-
--- the number of the statement at a position (a position outside the tree: 0)
-abbrev pub number : Marked → Pos → ℕ
-number (mleaf n k m) here = n
-number (mleaf n k m) (left x) = 0
-number (mleaf n k m) (right x) = 0
-number (mone n k m p) here = n
-number (mone n k m p) (left x) = number p x
-number (mone n k m p) (right x) = 0
-number (mtwo n k m p q) here = n
-number (mtwo n k m p q) (left x) = number p x
-number (mtwo n k m p q) (right x) = number q x
-
-pub number_rest : (t : Marked) (x : Pos) → number (rest t) x ≡ number t x
-number_rest (mleaf n k m) here = refl
-number_rest (mleaf n k m) (left x) = refl
-number_rest (mleaf n k m) (right x) = refl
-number_rest (mone n k m p) here = refl
-number_rest (mone n k m p) (left x) = number_rest p x
-number_rest (mone n k m p) (right x) = refl
-number_rest (mtwo n k m p q) here = refl
-number_rest (mtwo n k m p q) (left x) = number_rest p x
-number_rest (mtwo n k m p q) (right x) = number_rest q x
+-- each mark is legal for the marks of its parts
+abbrev pub LegalTree : Marked → Type 0
+LegalTree (mleaf n k m) = leaf_legal m k ≡ true
+LegalTree (mone n k m p) = (one_legal m k (live p) ≡ true) × LegalTree p
+LegalTree (mtwo n k m p q) = (two_legal m k (live p) (live q) ≡ true) × LegalTree p × LegalTree q

@@ -1,8 +1,9 @@
 -- the plain model: the lowest ready statement goes first, until none is ready; then the instant
 -- ends
-use Rattle.std.specs.Prelude.{◌≡◌, ℕ, zero, suc, ◌+◌, ◌*◌, Bool, true, false, cond, ◌&&◌, List, []}
-use Rattle.std.specs.Prelude.{◌∷◌, ◌++◌, length, replicate, Some, None, Option, slice_index_or}
-use Rattle.std.proofs.Math.Decide.{ℕ_discrete}
+use Rattle.std.specs.Prelude.{◌≡◌, ◌==◌, ℕ, zero, suc, ◌+◌, ◌*◌, Bool, true, false, cond, ◌&&◌}
+use Rattle.std.specs.Prelude.{List, [], ◌∷◌, length, map, count_by, replicate, Some, None, Option}
+use Rattle.std.specs.Prelude.{slice_index_or}
+use Rattle.std.specs.List.{range_with_len}
 use Rattle.signals.specs.Sets.{word_set}
 use Rattle.routine.specs.declared.kinds.Kind.{Kind}
 use Rattle.routine.specs.declared.kinds.SignalKind.{SignalKind}
@@ -12,7 +13,6 @@ use Rattle.routine.specs.Tree.{tree_at}
 use Rattle.routine.specs.Meaning.{signal_at}
 use Rattle.rules.specs.declared.status.Status.{Status}
 use Rattle.rules.specs.declared.status.Status.TheVariants.{Suspended, Terminated}
-use Rattle.rules.specs.Runs.{occurrences}
 use Rattle.rules.specs.Rules.{Mark, Idle, Signals, begun, over, ready, fire, effect_of, apply}
 use Rattle.rules.specs.Rules.{ended}
 
@@ -68,15 +68,9 @@ abbrev pub outputs_of : List SignalKind → Signals → ℕ
 outputs_of gs e = word_from (λ s. is_output (signal_at gs s) && slice_index_or e s false)
     (length gs) 0
 
--- f of each number below n
-abbrev pub each_below : (ℕ → ℕ) → ℕ → List ℕ
-each_below f zero = []
-each_below f (suc n) = each_below f n ++ (f n ∷ [])
-
--- the sum of a list
-abbrev pub total : List ℕ → ℕ
-total [] = 0
-total (n ∷ ns) = n + total ns
+-- how often each of n statements is among those that were stepped
+abbrev pub times_of : ℕ → List ℕ → List ℕ
+times_of n w = map (λ i. count_by (λ k. k == i) w) (range_with_len 0 n)
 
 -- terminated if statement 0 was over
 abbrev pub status_of : Bool → Status
@@ -99,7 +93,7 @@ closed gs ks c w =
     record {
       outputs = outputs_of gs c.1;
       status = status_of (over (tree_at ks 0) c.0);
-      times = each_below (λ i. occurrences ℕ_discrete i w) (length ks);
+      times = times_of (length ks) w;
       steps = length w;
       marks = ended (tree_at ks 0) c.0 c.1;
     }

@@ -1,6 +1,5 @@
 -- what is shown of the rules
-use Rattle.std.specs.Prelude.{◌≡◌, ℕ, ◌*◌, ◌<◌, ◌≤◌, true, false, List, length}
-use Rattle.std.proofs.Math.Decide.{ℕ_discrete}
+use Rattle.std.specs.Prelude.{◌≡◌, ◌==◌, ℕ, ◌*◌, ◌<◌, ◌≤◌, true, false, List, length, sum, count_by}
 use Rattle.signals.specs.Sets.{word_set}
 use Rattle.routine.specs.declared.kinds.Kind.{Kind}
 use Rattle.routine.specs.declared.kinds.SignalKind.{SignalKind}
@@ -8,11 +7,11 @@ use Rattle.routine.specs.Search.{lowest}
 use Rattle.routine.specs.Tree.{tree_at, contains, inside, can_end}
 use Rattle.routine.specs.Layout.{Formed}
 use Rattle.routine.specs.Meaning.{passes}
-use Rattle.rules.specs.Runs.{Run, Quiet, occurrences}
+use Rattle.rules.specs.Runs.{Run, Quiet}
 use Rattle.rules.specs.Rules.{Mark, Idle, Signals, at, begun, over, rule, ready, fire, ended}
 use Rattle.rules.specs.Legal.{Legal}
 use Rattle.rules.specs.Model.{Config, Ready, stepped, lowest_ready, settled, path, enough}
-use Rattle.rules.specs.Model.{first_marks, total, closed, instant}
+use Rattle.rules.specs.Model.{first_marks, closed, instant}
 
 -- the signals and statements of a routine: what reading and checking leave
 pub record Checked (gs : List SignalKind) (ks : List Kind) : Type 0 where
@@ -44,12 +43,12 @@ module _ (gs : List SignalKind) (ks : List Kind) where
     pub same : (c x y : Config) (v w : List ℕ) → Legal true ks c.0
         → Run (Ready ks) (stepped ks) c v x → Quiet (Ready ks) x → Run (Ready ks) (stepped ks) c w y
         → Quiet (Ready ks) y
-        → (x ≡ y) × ((i : ℕ) → occurrences ℕ_discrete i v ≡ occurrences ℕ_discrete i w)
+        → (x ≡ y) × ((i : ℕ) → count_by (λ k. k == i) v ≡ count_by (λ k. k == i) w)
     pub as_model : (c x : Config) (v : List ℕ) → Legal true ks c.0
         → Run (Ready ks) (stepped ks) c v x → Quiet (Ready ks) x
         → (x ≡ settled ks (enough ks) c)
-        × ((i : ℕ) → occurrences ℕ_discrete i v
-        ≡ occurrences ℕ_discrete i (path ks (enough ks) c))
+        × ((i : ℕ) → count_by (λ k. k == i) v
+        ≡ count_by (λ k. k == i) (path ks (enough ks) c))
 
   -- from legal marks no more than 4 steps for each statement are possible, and the model is quiet
   -- after them
@@ -88,7 +87,7 @@ module _ (gs : List SignalKind) (ks : List Kind) where
   -- the steps that the model counts are the sum of how often each statement was stepped
   abbrev pub StepsAddUp : Type 0
   StepsAddUp = (ms : List Mark) (input : ℕ) → Legal false ks ms
-      → total (instant gs ks ms input).times ≡ (instant gs ks ms input).steps
+      → sum (instant gs ks ms input).times ≡ (instant gs ks ms input).steps
 
   -- however an instant is stepped until nothing is ready, it comes to what the model says: outputs,
   -- status, how often each statement is stepped, steps, and marks

@@ -3,14 +3,16 @@ ghost use Rattle.rules.specs.Letters.{letter_of};
 
 use std::fmt;
 
-// How an instant leaves a routine: to go on in the next one, or at its end.
+/// How an instant leaves a routine.
 #[derive(Clone, Copy, Debug, PartialEq, Eq)]
 pub enum Status {
+    /// It goes on in the next instant.
     Suspended,
+    /// It is at its end.
     Terminated,
 }
 
-// S or T.
+/// S where it goes on, T at its end.
 impl fmt::Display for Status {
     ghost output = { λ s. Some (letter_of s) };
 

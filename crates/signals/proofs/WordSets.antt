@@ -89,12 +89,14 @@ or_one b h = ⊎_elim (λ e. ap (λ n. bit_or n 1) e) (λ e. ap (λ n. bit_or n 
 and_one : (b : ℕ) → (b ≡ 0) ⊎ (b ≡ 1) → bit_and b 1 ≡ b
 and_one b h = ⊎_elim (λ e. ap (λ n. bit_and n 1) e ∙ sym e) (λ e. ap (λ n. bit_and n 1) e ∙ sym e) h
 
+-- a signal is in the set where its bit is 1
 pub get_or-word_set : (w s : ℕ) → s < 64
     → slice_index_or (word_set w) s false ≡ (w / 2 ^ s % 2 == 1)
 unfolding word_set
 get_or-word_set w s h = get_or-map-range_with_len (λ k. nat_eq (bit w k) 1) 0 64 s s false h
     (omega arith)
 
+-- the word 0 makes the empty set
 pub word_set-zero : word_set 0 ≡ empty
 unfolding word_set
 word_set-zero = map-empty (λ k. nat_eq (bit 0 k) 1)

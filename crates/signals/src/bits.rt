@@ -2,16 +2,16 @@ ghost use Rattle.std.specs.Prelude.{◌≡◌};
 ghost use Rattle.signals.specs.Sets.{empty, word_set};
 ghost use Rattle.signals.specs.Sizes.{length-word_set};
 
-use super::board::Board;
+use super::board::{Board, SIGNALS};
 
-// A board in one word: bit k is 1 where signal k is present.
+/// A board in one word: bit k is 1 where signal k is present.
 #[derive(Debug, Drop)]
 pub struct BitBoard {
     word: u64,
 }
 
 impl BitBoard {
-    // A board on which no signal is present.
+    /// A board on which no signal is present.
     pub fn new() -> BitBoard
         ensures vacant { word_set result.word ≡ empty }
         ensures zero { result.word ≡ 0 }
@@ -30,18 +30,18 @@ impl Board for BitBoard {
     }
 
     fn raise(&mut self, signal: u8) {
-        if signal < 64 {
+        if usize::from(signal) < SIGNALS {
             self.word |= 1 << signal;
         }
     }
 
     fn lower(&mut self, signal: u8) {
-        if signal < 64 {
+        if usize::from(signal) < SIGNALS {
             self.word &= !(1 << signal);
         }
     }
 
     fn ask(&self, signal: u8) -> bool {
-        signal < 64 && (self.word >> signal) & 1 == 1
+        usize::from(signal) < SIGNALS && (self.word >> signal) & 1 == 1
     }
 }

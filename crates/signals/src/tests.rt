@@ -1,7 +1,7 @@
 ghost use Rattle.std.specs.Prelude.{◌≡◌};
 ghost use Rattle.signals.specs.Sets.{empty};
 
-use super::{BitBoard, Board, StampBoard};
+use super::{BitBoard, Board, SIGNALS, StampBoard};
 use std::process::Abort;
 
 // The answers for the signals 0 to 63, as the bits of a word.
@@ -48,7 +48,7 @@ fn stamp_board(rt: HostRuntime) {
 // left the stamps as they are.
 fn at_last_stamp() -> StampBoard {
     StampBoard {
-        stamps: [1; 64],
+        stamps: [1; SIGNALS],
         current: u32::MAX,
     }
 }

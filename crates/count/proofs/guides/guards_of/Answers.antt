@@ -3,7 +3,7 @@ use Rattle.routine.specs.declared.kinds.Kind.{Kind}
 use Rattle.routine.specs.declared.tables.TheConstants.{MOST_STATEMENTS}
 use Rattle.routine.specs.Kinds.{shape}
 use Rattle.routine.specs.View.{table_kinds, table_signals}
-use Rattle.rules.proofs.Checked.{table, of_routine}
+use Rattle.rules.proofs.TestsPassed.{table, of_routine}
 use Rattle.count.specs.Front.{with_guards}
 use Rattle.count.proofs.Guarding.{Guarded, guarded_more, guarded_all}
 use Rattle.count.proofs.guides.guards_of.Goals as goal

@@ -1,6 +1,6 @@
 use Rattle.std.proofs.Common.{map}
 use Rattle.routine.specs.View.{table_kinds, table_signals}
-use Rattle.rules.proofs.Checked.{of_routine}
+use Rattle.rules.proofs.TestsPassed.{of_routine}
 use Rattle.record.proofs.Lists.{few_kinds}
 use Rattle.count.specs.CountView.{kinds_of, signals_of, state_of}
 use Rattle.relay.specs.Asked.{asked}

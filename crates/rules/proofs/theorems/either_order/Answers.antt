@@ -1,6 +1,6 @@
 use Rattle.routine.specs.View.{table_signals, table_kinds}
-use Rattle.rules.proofs.Checked.{of_routine}
-use Rattle.rules.proofs.Promises.{either_order}
+use Rattle.rules.proofs.TestsPassed.{of_routine}
+use Rattle.rules.proofs.EitherOrder.{either_order}
 use Rattle.rules.proofs.theorems.either_order.Goals as goal
 
 pub returns : goal.returns

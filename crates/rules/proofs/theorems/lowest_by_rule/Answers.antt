@@ -1,6 +1,6 @@
 use Rattle.routine.specs.View.{table_signals, table_kinds}
-use Rattle.rules.proofs.Checked.{of_routine}
-use Rattle.rules.proofs.Lowest.{lowest_by_rule}
+use Rattle.rules.proofs.TestsPassed.{of_routine}
+use Rattle.rules.proofs.LowestByRule.{lowest_by_rule}
 use Rattle.rules.proofs.theorems.lowest_by_rule.Goals as goal
 
 pub returns : goal.returns

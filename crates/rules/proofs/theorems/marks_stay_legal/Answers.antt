@@ -1,6 +1,6 @@
 use Rattle.routine.specs.View.{table_signals, table_kinds}
-use Rattle.rules.proofs.Checked.{of_routine}
-use Rattle.rules.proofs.Stays.{marks_stay_legal}
+use Rattle.rules.proofs.TestsPassed.{of_routine}
+use Rattle.rules.proofs.MarksStayLegal.{marks_stay_legal}
 use Rattle.rules.proofs.theorems.marks_stay_legal.Goals as goal
 
 pub returns : goal.returns

@@ -1,8 +1,8 @@
 use Rattle.std.proofs.Common.{ℕ, ◌*◌, ap}
 use Rattle.routine.specs.View.{table_signals, table_kinds}
-use Rattle.rules.proofs.Checked.{of_routine}
-use Rattle.rules.proofs.Promises.{instant_ends}
-use Rattle.rules.proofs.Sums.{steps_add_up}
+use Rattle.rules.proofs.TestsPassed.{of_routine}
+use Rattle.rules.proofs.InstantEnds.{instant_ends}
+use Rattle.rules.proofs.StepsAddUp.{steps_add_up}
 use Rattle.rules.proofs.theorems.most_steps.Goals as goal
 
 pub returns : goal.returns

@@ -1,6 +1,6 @@
 use Rattle.routine.specs.View.{table_signals, table_kinds}
-use Rattle.rules.proofs.Checked.{of_routine}
-use Rattle.rules.proofs.Promises.{nothing_ready_inside}
+use Rattle.rules.proofs.TestsPassed.{of_routine}
+use Rattle.rules.proofs.NothingReadyInside.{nothing_ready_inside}
 use Rattle.rules.proofs.theorems.nothing_ready_inside.Goals as goal
 
 pub returns : goal.returns

@@ -1,7 +1,7 @@
 use Rattle.routine.specs.View.{table_signals, table_kinds}
-use Rattle.rules.proofs.Checked.{of_routine}
-use Rattle.rules.proofs.Promises.{order_never_shows}
-use Rattle.rules.proofs.Sums.{same_outcome}
+use Rattle.rules.proofs.TestsPassed.{of_routine}
+use Rattle.rules.proofs.OrderNeverShows.{order_never_shows}
+use Rattle.rules.proofs.StepsAddUp.{same_outcome}
 use Rattle.rules.proofs.theorems.order_never_shows.Goals as goal
 
 pub returns : goal.returns

@@ -1,25 +1,26 @@
--- what the checks of a routine say, in the words of the proofs
-use Rattle.std.proofs.Common.{◌≡◌, ℕ, ◌<◌, Bool, true, false, not, ◌&&◌, List, length, is_some}
-use Rattle.std.proofs.Common.{Some, None, Option, refl, ap, subst, arith}
+-- a routine that is checked passes the tests of a table
+use Rattle.std.proofs.Common.{ℕ, Bool, ◌≡◌, true, ◌<◌, refl, Option, is_some, None, arith, Some}
+use Rattle.std.proofs.Common.{false, List, ◌&&◌, not, length, ap, subst}
+use Rattle.std.proofs.lemmas.Bool.{both_ways, and_parts}
+use Rattle.routine.specs.declared.checked.Routine.{Routine}
 use Rattle.routine.specs.declared.kinds.Kind.{Kind}
 use Rattle.routine.specs.declared.kinds.SignalKind.{SignalKind}
-use Rattle.routine.specs.declared.kinds.SignalKind.TheVariants.{Local as Own}
-use Rattle.routine.specs.declared.checked.Routine.{Routine}
-use Rattle.routine.specs.Layout.{Formed}
-use Rattle.routine.specs.View.{table_signals, table_kinds}
-use Rattle.routine.proofs.Whole.{some_statement}
-use Rattle.routine.specs.Search.{lowest, any}
+use Rattle.routine.specs.declared.kinds.SignalKind.TheVariants.{Local}
 use Rattle.routine.specs.Kinds.{shape, kind_at, shape_at}
-use Rattle.routine.specs.Tree.{Tree, leaf, one, two, tree_at, contains, inside, can_end}
-use Rattle.routine.specs.Meaning.{is_local, signal_at, misuses, declares, encloses, in_scope}
-use Rattle.routine.specs.Meaning.{is_out_of_scope, unscoped, endless}
-use Rattle.routine.proofs.Searches.{found, lowest_below, none_below}
-use Rattle.routine.proofs.Trees.{Rising, rising, contains_in, in_under}
+use Rattle.routine.specs.Layout.{Formed}
+use Rattle.routine.specs.Meaning.{declares, misuses, signal_at, unscoped, is_out_of_scope, endless}
+use Rattle.routine.specs.Meaning.{in_scope, encloses}
+use Rattle.routine.specs.Search.{any, lowest}
+use Rattle.routine.specs.Tree.{inside, contains, tree_at}
+use Rattle.routine.specs.View.{table_signals, table_kinds}
 use Rattle.routine.proofs.Passed.{Tested, tested, once}
+use Rattle.routine.proofs.Searches.{lowest_below, found, none_below}
+use Rattle.routine.proofs.Trees.{Rising, rising, in_under, contains_in}
+use Rattle.routine.proofs.Whole.{some_statement}
+use Rattle.routine.specs.Meaning.{is_local}
+use Rattle.rules.specs.Rules.{Tree, leaf, one, two}
 use Rattle.rules.specs.Theorems.{Checked}
-use Rattle.rules.proofs.Potential.{ends}
-use Rattle.rules.proofs.Shapes.{blank}
-use Rattle.rules.proofs.Tests.{Binds, Uses, Scopes, Turning, Table}
+use Rattle.rules.proofs.TableTests.{RowBinds, RowUses, Turning, Scopes, Table}
 
 -- what any finds
 any_says : (P : ℕ → Bool) (n : ℕ) → any P n ≡ true → (k : ℕ) × (k < n) × (P k ≡ true)
@@ -39,46 +40,36 @@ none_says P n h = none_below P n (go (lowest P n) h)
     go None e = refl
     go (Some i) e = absurd (grind arith)
 
+-- what is inside a statement is in its tree
 pub inside_contains : (t : Tree) (i : ℕ) → inside t i ≡ true → contains t i ≡ true
 inside_contains (leaf n k) i h = grind arith
 inside_contains (one n k p) i h = grind arith
 inside_contains (two n k p q) i h = grind arith
 
-binds_declares : (k : Kind) (s : ℕ) → Binds (shape k) s → declares k s ≡ true
+binds_declares : (k : Kind) (s : ℕ) → RowBinds (shape k) s → declares k s ≡ true
 binds_declares k s h = grind arith
 
-declares_binds : (k : Kind) (s : ℕ) → declares k s ≡ true → Binds (shape k) s
+declares_binds : (k : Kind) (s : ℕ) → declares k s ≡ true → RowBinds (shape k) s
 declares_binds k s h = grind arith
 
-binds_local : (gs : List SignalKind) (k : Kind) (s : ℕ) → misuses gs k ≡ false → Binds (shape k) s
-    → signal_at gs s ≡ Own
+binds_local : (gs : List SignalKind) (k : Kind) (s : ℕ) → misuses gs k ≡ false
+    → RowBinds (shape k) s → signal_at gs s ≡ Local
 binds_local gs k s h b = grind arith
 
 uses_out_of_scope : (gs : List SignalKind) (ks : List Kind) (i : ℕ) (k : Kind) (s : ℕ)
-    → unscoped gs ks i k ≡ false → Uses (shape k) s → is_out_of_scope gs ks i s ≡ false
+    → unscoped gs ks i k ≡ false → RowUses (shape k) s → is_out_of_scope gs ks i s ≡ false
 uses_out_of_scope gs ks i k s h u = grind arith
 
 binds_alone : (gs : List SignalKind) (ks : List Kind) (i : ℕ) (k : Kind) (s : ℕ)
-    → unscoped gs ks i k ≡ false → Binds (shape k) s
+    → unscoped gs ks i k ≡ false → RowBinds (shape k) s
     → any (λ j. declares (kind_at ks j) s) i ≡ false
 binds_alone gs ks i k s h b = grind arith
 
 astray_scope : (b c : Bool) → (b && not c) ≡ false → b ≡ true → c ≡ true
 astray_scope b c h e = grind arith
 
-both : (b c : Bool) → (b && c) ≡ true → (b ≡ true) × (c ≡ true)
-both b c h = grind arith
-
-pub ends_same : (t : Tree) → ends (blank t) ≡ can_end t
-ends_same (leaf n k) = grind arith
-ends_same (one n k p) = let h = ends_same p in grind arith
-ends_same (two n k p q) = let h = ends_same p in let g = ends_same q in grind arith
-
-false_true : {b : Bool} → b ≡ false → b ≡ true → ⊥
-false_true p q = let z : ◌≡◌ {A = ℕ} 0 1 = cc in omega arith
-
 turning_says : (ks : List Kind) (k : Kind) → endless ks k ≡ false → Turning ks (shape k)
-turning_says ks k h = let e = ends_same in grind arith
+turning_says ks k h = grind arith
 
 module _ (gs : List SignalKind) (ks : List Kind) (C : Checked gs ks) where
   tests : Tested gs ks
@@ -87,11 +78,11 @@ module _ (gs : List SignalKind) (ks : List Kind) (C : Checked gs ks) where
   pub rises : Rising ks
   rises = rising (length gs) ks C.formed
 
-  not_below : (i j s : ℕ) → i < length ks → Binds (shape_at ks i) s → Binds (shape_at ks j) s
+  not_below : (i j s : ℕ) → i < length ks → RowBinds (shape_at ks i) s → RowBinds (shape_at ks j) s
       → ¬ (j < i)
   not_below i j s l b c h =
       let a = binds_alone gs ks i (kind_at ks i) s (tests.scopes i l) b in
-      false_true (none_says (λ j. declares (kind_at ks j) s) i a j h)
+      both_ways _ (none_says (λ j. declares (kind_at ks j) s) i a j h)
       (binds_declares (kind_at ks j) s c)
 
   scopes : Scopes ks gs
@@ -104,7 +95,7 @@ module _ (gs : List SignalKind) (ks : List Kind) (C : Checked gs ks) where
             let a = uses_out_of_scope gs ks i (kind_at ks i) s (tests.scopes i l) u in
             let d = astray_scope (is_local (signal_at gs s)) (in_scope ks s i) a (ap is_local x) in
             let f = any_says (encloses ks s i) (length ks) d in
-            let g = both _ _ f.2 in (
+            let g = and_parts _ _ f.2 in (
               f.0,
               f.1,
               declares_binds (kind_at ks f.0) s g.0,
@@ -113,6 +104,7 @@ module _ (gs : List SignalKind) (ks : List Kind) (C : Checked gs ks) where
             );
       }
 
+  -- a checked routine passes the tests
   pub table : Table ks gs
   table =
       record {
@@ -123,7 +115,7 @@ module _ (gs : List SignalKind) (ks : List Kind) (C : Checked gs ks) where
         turning = λ i l. turning_says ks (kind_at ks i) (tests.loops i l);
       }
 
--- every routine is one
+-- every routine is checked
 pub of_routine : (r : Routine) → Checked (table_signals r.table) (table_kinds r.table)
 of_routine r =
     record {

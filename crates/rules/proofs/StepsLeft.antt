@@ -1,17 +1,12 @@
--- how many steps an instant can still take
-use Rattle.std.proofs.Common.{◌≡◌, ℕ, ◌+◌, ◌*◌, ◌≤◌, Bool, true, false, cond, ◌&&◌, ◌||◌, List}
-use Rattle.std.proofs.Common.{length}
-use Rattle.rules.specs.Runs.{Run}
-use Rattle.rules.proofs.MarkedTrees.{Mark, Idle, Waiting, UnderWay, Done, Leaf, nothing, stop, emit}
-use Rattle.rules.proofs.MarkedTrees.{wait, One, loop, kill, local, Two, sequence, parallel, when}
-use Rattle.rules.proofs.MarkedTrees.{Marked, mleaf, mone, mtwo, Pos, rest, State, Can, next, Fine}
+-- how many steps an instant can still take, as the marks of a tree stand
+use Rattle.std.proofs.Common.{ℕ, ◌+◌, Bool, false, true, cond, ◌&&◌, ◌||◌, ◌≡◌}
+use Rattle.routine.specs.Tree.{leaf_can_end, one_can_end, can_end}
+use Rattle.rules.specs.Rules.{Leaf, nothing, stop, emit, wait, One, loop, kill, local, Two}
+use Rattle.rules.specs.Rules.{sequence, parallel, when, Tree, leaf, one, two, Mark, Idle, Waiting}
+use Rattle.rules.specs.Rules.{UnderWay, Done}
+use Rattle.rules.proofs.MarkedTrees.{Marked, mleaf, mone, mtwo, unmarked}
 
-abbrev pub size : Marked → ℕ
-size (mleaf n k m) = 1
-size (mone n k m p) = 1 + size p
-size (mtwo n k m p q) = 1 + size p + size q
-
--- of a fresh tree: its most steps, and whether it can end at once
+-- the most steps of a tree that is begun afresh
 abbrev pub most_leaf : Leaf → ℕ
 most_leaf nothing = 0
 most_leaf stop = 0
@@ -28,43 +23,22 @@ most_two sequence b c = b + 1 + c
 most_two parallel b c = b + c
 most_two (when s) b c = 1 + b
 
-abbrev pub most : Marked → ℕ
-most (mleaf n k m) = most_leaf k
-most (mone n k m p) = most_one k + most p
-most (mtwo n k m p q) = most_two k (most p) (most q)
+abbrev pub most : Tree → ℕ
+most (leaf n k) = most_leaf k
+most (one n k p) = most_one k + most p
+most (two n k p q) = most_two k (most p) (most q)
 
-abbrev pub ends_leaf : Leaf → Bool
-ends_leaf nothing = true
-ends_leaf stop = false
-ends_leaf (emit s) = true
-ends_leaf (wait s) = true
-
-abbrev pub ends_one : One → Bool → Bool
-ends_one loop b = false
-ends_one (kill s) b = b
-ends_one (local s) b = b
-
-abbrev pub ends_two : Two → Bool → Bool → Bool
-ends_two sequence b c = b && c
-ends_two parallel b c = b && c
-ends_two (when s) b c = b
-
-abbrev pub ends : Marked → Bool
-ends (mleaf n k m) = ends_leaf k
-ends (mone n k m p) = ends_one k (ends p)
-ends (mtwo n k m p q) = ends_two k (ends p) (ends q)
-
--- of a tree as it stands
+-- whether a tree may still end in this instant, as its marks stand
 abbrev pub may_leaf : Mark → Leaf → Bool
 may_leaf Idle k = false
-may_leaf Waiting k = ends_leaf k
+may_leaf Waiting k = leaf_can_end k
 may_leaf UnderWay k = false
 may_leaf Done k = true
 
 abbrev pub may_one : Mark → One → Bool → Bool
 may_one Idle k b = false
-may_one Waiting k b = ends_one k b
-may_one UnderWay k b = ends_one k b
+may_one Waiting k b = one_can_end k b
+may_one UnderWay k b = one_can_end k b
 may_one Done k b = true
 
 -- b and c: whether the parts may end as they stand; f and g: whether they can end, fresh
@@ -76,11 +50,13 @@ may_two UnderWay parallel b c f g = b && c
 may_two UnderWay (when s) b c f g = b || c
 may_two Done k b c f g = true
 
+-- m: the mark
 abbrev pub may : Marked → Bool
 may (mleaf n k m) = may_leaf m k
 may (mone n k m p) = may_one m k (may p)
-may (mtwo n k m p q) = may_two m k (may p) (may q) (ends p) (ends q)
+may (mtwo n k m p q) = may_two m k (may p) (may q) (can_end (unmarked p)) (can_end (unmarked q))
 
+-- the steps that are left, as its marks stand
 abbrev pub left_leaf : Mark → Leaf → ℕ
 left_leaf Idle k = 0
 left_leaf Waiting k = most_leaf k
@@ -108,21 +84,18 @@ left_two Done k r e b u c = 0
 
 abbrev pub steps_left : Marked → ℕ
 steps_left (mleaf n k m) = left_leaf m k
-steps_left (mone n k m p) = left_one m k (steps_left p) (may p) (most p)
-steps_left (mtwo n k m p q) = left_two m k (steps_left p) (may p) (most p) (steps_left q) (most q)
+steps_left (mone n k m p) = left_one m k (steps_left p) (may p) (most (unmarked p))
+steps_left (mtwo n k m p q) =
+    left_two m k (steps_left p) (may p) (most (unmarked p)) (steps_left q) (most (unmarked q))
 
--- no loop's body can end at once
+-- no loop's first part can end at once
 abbrev pub Loops : One → Bool → Type 0
 Loops loop b = b ≡ false
 Loops (kill s) b = Unit {0}
 Loops (local s) b = Unit {0}
 
-abbrev pub Turns : Marked → Type 0
-Turns (mleaf n k m) = Unit {0}
-Turns (mone n k m p) = Loops k (ends p) × Turns p
-Turns (mtwo n k m p q) = Turns p × Turns q
-
-abbrev pub InstantEnds : Type 0
-InstantEnds =
-    (s z : State) (w : List Pos) → Fine s → Turns (rest s.0) → Run Can next s w z
-    → length w + steps_left z.0 ≤ 4 * size s.0
+-- so it is throughout the tree
+abbrev pub Turns : Tree → Type 0
+Turns (leaf n k) = Unit {0}
+Turns (one n k p) = Loops k (can_end p) × Turns p
+Turns (two n k p q) = Turns p × Turns q

@@ -1,26 +1,24 @@
--- the lowest ready statement is the lowest whose own rule applies
-use Rattle.std.proofs.Common.{◌≡◌, ℕ, suc, zero, ◌<◌, Bool, true, false, not, ◌&&◌, ◌||◌, List}
-use Rattle.std.proofs.Common.{length, Some, None, Option, sym, refl, ap, ◌∙◌, subst, inl, inr}
-use Rattle.std.proofs.Common.{arith}
-use Rattle.std.proofs.lemmas.Bool.{false≢true, false_from_ne_true}
-use native.Mathlib.Decide.{ℕ_discrete}
+-- the theorem LowestByRule: the lowest ready statement is the lowest whose own rule applies
+use Rattle.std.proofs.Common.{ℕ, Bool, ◌≡◌, Some, None, zero, arith, suc, refl, Option, ◌∙◌, true}
+use Rattle.std.proofs.Common.{subst, false, not, ◌&&◌, ◌||◌, List, ◌<◌, length, inl, inr, ap, sym}
+use Rattle.std.proofs.lemmas.Bool.{both_ways, and_right, false_from_ne_true}
+use Rattle.std.proofs.Math.Decide.{ℕ_discrete}
 use Rattle.routine.specs.declared.kinds.Kind.{Kind}
 use Rattle.routine.specs.declared.kinds.SignalKind.{SignalKind}
-use Rattle.routine.specs.Tree.{node, tree_at}
-use Rattle.routine.specs.Kinds.{Shape, no_part, one_part, two_parts, shape_at}
+use Rattle.routine.specs.Kinds.{shape_at, Shape, no_part, one_part, two_parts}
 use Rattle.routine.specs.Search.{lowest, or_last}
-use Rattle.routine.proofs.Searches.{Found, found, lowest_below, lowest_here, lowest_none}
-use Rattle.routine.proofs.Searches.{none_below}
-use Rattle.routine.proofs.Trees.{unroll, trees, under_below}
-use Rattle.rules.specs.Rules.{Mark, Signals, One, at, over, ready, reached, rule, shut, one_rule}
-use Rattle.rules.specs.Rules.{pick}
+use Rattle.routine.specs.Tree.{tree_at, node}
+use Rattle.routine.proofs.Searches.{lowest_none, none_below, lowest_below, Found, found}
+use Rattle.routine.proofs.Searches.{lowest_here}
+use Rattle.routine.proofs.Trees.{Rising, In, trees, unroll, Part, under_below, in_under}
+use Rattle.rules.specs.Rules.{Mark, One, shut, one_rule, pick, Signals, rule, reached, at, over}
+use Rattle.rules.specs.Rules.{ready}
 use Rattle.rules.specs.Theorems.{Checked, LowestByRule}
-use Rattle.rules.proofs.Tests.{Part, Rising, Table}
-use Rattle.rules.proofs.Frames.{In}
-use Rattle.rules.proofs.Table.{in_under, sound}
-use Rattle.rules.proofs.Own.{told}
-use Rattle.rules.proofs.Promises.{ready_below}
-use Rattle.rules.proofs.Checked.{table}
+use Rattle.rules.proofs.TableTests.{Table}
+use Rattle.rules.proofs.SoundTrees.{sound}
+use Rattle.rules.proofs.RuleFromRoot.{pick_yes, from_root}
+use Rattle.rules.proofs.TestsPassed.{table}
+use Rattle.rules.proofs.StepsOnTrees.{ready_below}
 
 -- below what a search finds there is nothing
 pub lowest_first : (P : ℕ → Bool) (n i : ℕ) → lowest P n ≡ Some i → lowest P i ≡ None
@@ -36,12 +34,6 @@ lowest_first P (suc n) i h = go (lowest_first P n i) (lowest P n) (P n) refl h
 shut_applies : (m : Mark) (k : One) (o : Bool) → shut m k ≡ true → one_rule m k o ≡ true
 shut_applies m k o h = grind arith
 
-out_leaf : (i n : ℕ) → i ≡ n → pick (ℕ_discrete i n) true false ≡ false → ⊥
-out_leaf i n e h = grind arith
-
-out_own : (i n : ℕ) (b : Bool) → i ≡ n → pick (ℕ_discrete i n) true b ≡ false → ⊥
-out_own i n b e h = grind arith
-
 out_one : (i n : ℕ) (s b : Bool) → pick (ℕ_discrete i n) true (not s && b) ≡ false → s ≡ false
     → b ≡ false
 out_one i n s b h g = grind arith
@@ -55,17 +47,20 @@ module _ (ks : List Kind) (S : Rising ks) (ms : List Mark) (e : Signals) (i : �
   Lower = (j : ℕ) × (j < i) × (rule (tree_at ks j) ms e ≡ true)
 
   -- what is in a tree, and not reached there, lies inside a local that is shut
-  pub shut_off : (a : ℕ) → a < length ks → In (tree_at ks a) i → reached (tree_at ks a) ms i ≡ false
+  shut_off : (a : ℕ) → a < length ks → In (tree_at ks a) i → reached (tree_at ks a) ms i ≡ false
       → Lower
   shut_off = trees ks S (λ a t. In t i → reached t ms i ≡ false → Lower)
       (λ a l g. at_shape a (shape_at ks a) (unroll ks S a l) (S a l) g)
     where
+      own : (a : ℕ) (b : Bool) → i ≡ a → pick (ℕ_discrete i a) true b ≡ false → ⊥
+      own a b u w = both_ways _ w (pick_yes (ℕ_discrete i a) true b u)
+
       at_shape : (a : ℕ) (r : Shape) → tree_at ks a ≡ node a r (tree_at ks)
           → ((p : ℕ) → Part r p → (a < p) × (p < length ks))
           → ((p : ℕ) → Part r p → In (tree_at ks p) i → reached (tree_at ks p) ms i ≡ false → Lower)
           → In (node a r (tree_at ks)) i → reached (node a r (tree_at ks)) ms i ≡ false → Lower
-      at_shape a (no_part k) x s g u w = absurd (out_leaf i a u w)
-      at_shape a (one_part k p) x s g (inl u) w = absurd (out_own i a _ u w)
+      at_shape a (no_part k) x s g u w = absurd (own a false u w)
+      at_shape a (one_part k p) x s g (inl u) w = absurd (own a _ u w)
       at_shape a (one_part k p) x s g (inr u) w = go (shut (at ms a) k) refl
         where
           go : (b : Bool) → shut (at ms a) k ≡ b → Lower
@@ -77,7 +72,7 @@ module _ (ks : List Kind) (S : Rising ks) (ms : List Mark) (e : Signals) (i : �
                 omega arith,
                 ap (λ t. rule t ms e) x ∙ shut_applies (at ms a) k (over (tree_at ks p) ms) h,
               )
-      at_shape a (two_parts k p q) x s g (inl u) w = absurd (out_own i a _ u w)
+      at_shape a (two_parts k p q) x s g (inl u) w = absurd (own a _ u w)
       at_shape a (two_parts k p q) x s g (inr (inl u)) w = g p (inl refl) u (out_two i a _ _ w).0
       at_shape a (two_parts k p q) x s g (inr (inr u)) w = g q (inr refl) u (out_two i a _ _ w).1
 
@@ -96,14 +91,11 @@ module _ (gs : List SignalKind) (ks : List Kind) (C : Checked gs ks) (ms : List 
   Q i = ready (tree_at ks 0) ms e i
 
   both : (i : ℕ) → i < length ks → Q i ≡ (reached (tree_at ks 0) ms i && P i)
-  both i l = (told ks T.shaped T.once ms e i 0 T.some_row (whole i l)).when_ready
+  both i l = (from_root ks T.shaped T.once ms e i 0 T.some_row (whole i l)).when_ready
 
   -- no rule, not ready
   pub unready_by_rule : (i : ℕ) → i < length ks → P i ≡ false → Q i ≡ false
-  unready_by_rule i l h = both i l ∙ go (reached (tree_at ks 0) ms i) (P i) h
-    where
-      go : (a b : Bool) → b ≡ false → (a && b) ≡ false
-      go a b h = grind arith
+  unready_by_rule i l h = both i l ∙ and_right (reached (tree_at ks 0) ms i) (P i) h
 
   -- the lowest rule is ready
   pub ready_by_rule : (i : ℕ) → i < length ks → P i ≡ true → ((k : ℕ) → k < i → P k ≡ false)
@@ -115,8 +107,9 @@ module _ (gs : List SignalKind) (ks : List Kind) (C : Checked gs ks) (ms : List 
       go true w = ap (λ b. b && P i) w ∙ h
       go false w =
           let x = shut_off ks T.shaped ms e i 0 T.some_row (whole i l) w in
-          absurd (false≢true (sym (g x.0 x.1) ∙ x.2))
+          absurd (both_ways _ (g x.0 x.1) x.2)
 
+  -- so the lowest rule that applies is that of the lowest ready statement
   pub by_rule : lowest P (length ks) ≡ lowest Q (length ks)
   by_rule = go (lowest P (length ks)) refl
     where
@@ -138,8 +131,9 @@ module _ (gs : List SignalKind) (ks : List Kind) (C : Checked gs ks) (ms : List 
   pub none_ready : ((i : ℕ) → i < length ks → P i ≡ false) → (i : ℕ) → ¬ (Q i ≡ true)
   none_ready p i r =
       let n = none_below Q (length ks) (sym by_rule ∙ lowest_none P (length ks) p) in
-      false≢true (sym (n i (ready_below gs ks C i ms e r)) ∙ r)
+      both_ways _ (n i (ready_below gs ks C i ms e r)) r
 
+-- the theorem
 pub lowest_by_rule : (gs : List SignalKind) (ks : List Kind) → Checked gs ks → LowestByRule gs ks
 lowest_by_rule gs ks C =
     record {

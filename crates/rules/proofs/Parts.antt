@@ -1,2 +1,0 @@
--- a step by the tree of its own statement
-pub use Rattle.rules.specs.Rules.{rule, fire, effect_of, reached}
