@@ -1,6 +1,7 @@
 -- what the checks of a routine say, in the words of the proofs
-use Rattle.std.proofs.Common.{◌≡◌, ℕ, ◌<◌, Bool, true, false, not, ◌&&◌, List, length, is_some}
-use Rattle.std.proofs.Common.{Some, None, Option, refl, ap, subst, arith}
+use Rattle.std.proofs.Common.{◌≡◌, ℕ, ◌<◌, Bool, true, false, not, ◌&&◌, List, length, ap, subst}
+use Rattle.std.proofs.Common.{arith}
+use Rattle.std.specs.List.{list_any, range_with_len}
 use Rattle.routine.specs.declared.kinds.Kind.{Kind}
 use Rattle.routine.specs.declared.kinds.SignalKind.{SignalKind}
 use Rattle.routine.specs.declared.kinds.SignalKind.TheVariants.{Local as Own}
@@ -8,36 +9,17 @@ use Rattle.routine.specs.declared.checked.Routine.{Routine}
 use Rattle.routine.specs.Layout.{Formed}
 use Rattle.routine.specs.View.{table_signals, table_kinds}
 use Rattle.routine.proofs.Whole.{some_statement}
-use Rattle.routine.specs.Search.{lowest, any}
 use Rattle.routine.specs.Kinds.{shape, kind_at, shape_at}
 use Rattle.routine.specs.Tree.{Tree, leaf, one, two, tree_at, contains, inside, can_end}
 use Rattle.routine.specs.Meaning.{is_local, signal_at, misuses, declares, encloses, in_scope}
 use Rattle.routine.specs.Meaning.{is_out_of_scope, unscoped, endless}
-use Rattle.routine.proofs.Searches.{found, lowest_below, none_below}
+use Rattle.routine.proofs.Searches.{some_passes, none_passes}
 use Rattle.routine.proofs.Trees.{Rising, rising, contains_in, in_under}
 use Rattle.routine.proofs.Passed.{Tested, tested, once}
 use Rattle.rules.specs.Theorems.{Checked}
 use Rattle.rules.proofs.Potential.{ends}
 use Rattle.rules.proofs.Shapes.{blank}
 use Rattle.rules.proofs.Tests.{Binds, Uses, Scopes, Turning, Table}
-
--- what any finds
-any_says : (P : ℕ → Bool) (n : ℕ) → any P n ≡ true → (k : ℕ) × (k < n) × (P k ≡ true)
-any_says P n h = go (lowest P n) refl h
-  where
-    go : (o : Option ℕ) → lowest P n ≡ o → is_some o ≡ true → (k : ℕ) × (k < n) × (P k ≡ true)
-    go None e h = absurd (grind arith)
-    go (Some i) e h = (i, lowest_below P n i e, hit i e)
-      where
-        hit : (i : ℕ) → lowest P n ≡ Some i → P i ≡ true
-        hit i e = let f = found P n in rw e at f
-
-none_says : (P : ℕ → Bool) (n : ℕ) → any P n ≡ false → (k : ℕ) → k < n → P k ≡ false
-none_says P n h = none_below P n (go (lowest P n) h)
-  where
-    go : (o : Option ℕ) → is_some o ≡ false → o ≡ None
-    go None e = refl
-    go (Some i) e = absurd (grind arith)
 
 pub inside_contains : (t : Tree) (i : ℕ) → inside t i ≡ true → contains t i ≡ true
 inside_contains (leaf n k) i h = grind arith
@@ -60,7 +42,7 @@ uses_out_of_scope gs ks i k s h u = grind arith
 
 binds_alone : (gs : List SignalKind) (ks : List Kind) (i : ℕ) (k : Kind) (s : ℕ)
     → unscoped gs ks i k ≡ false → Binds (shape k) s
-    → any (λ j. declares (kind_at ks j) s) i ≡ false
+    → list_any (λ j. declares (kind_at ks j) s) (range_with_len 0 i) ≡ false
 binds_alone gs ks i k s h b = grind arith
 
 astray_scope : (b c : Bool) → (b && not c) ≡ false → b ≡ true → c ≡ true
@@ -91,7 +73,7 @@ module _ (gs : List SignalKind) (ks : List Kind) (C : Checked gs ks) where
       → ¬ (j < i)
   not_below i j s l b c h =
       let a = binds_alone gs ks i (kind_at ks i) s (tests.scopes i l) b in
-      false_true (none_says (λ j. declares (kind_at ks j) s) i a j h)
+      false_true (none_passes (λ j. declares (kind_at ks j) s) i a j h)
       (binds_declares (kind_at ks j) s c)
 
   scopes : Scopes ks gs
@@ -103,7 +85,7 @@ module _ (gs : List SignalKind) (ks : List Kind) (C : Checked gs ks) where
         within = λ i s l u x.
             let a = uses_out_of_scope gs ks i (kind_at ks i) s (tests.scopes i l) u in
             let d = astray_scope (is_local (signal_at gs s)) (in_scope ks s i) a (ap is_local x) in
-            let f = any_says (encloses ks s i) (length ks) d in
+            let f = some_passes (encloses ks s i) (length ks) d in
             let g = both _ _ f.2 in (
               f.0,
               f.1,
