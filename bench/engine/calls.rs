@@ -4,10 +4,9 @@ use std::fmt;
 
 use crate::count::{Closing, Count};
 use crate::refusal::Refusal;
+use crate::rules::Mark;
 use crate::run;
-use crate::table;
-
-const RECORD_BYTES: usize = 279;
+use crate::table::{self, Routine};
 
 #[derive(Clone, Debug)]
 pub enum Call {
@@ -18,39 +17,66 @@ pub enum Call {
     TakeOver { record: Vec<u8> },
 }
 
+/// A closed instant.
+#[derive(Clone, Debug)]
+pub struct Instant {
+    pub closing: Closing,
+    /// The marks that remain.
+    pub marks: Vec<Mark>,
+    /// The statements that were stepped in it, in their order, since a record was last taken over.
+    pub stepped: Vec<usize>,
+}
+
 #[derive(Clone, Debug)]
 pub enum Answer {
-    Begun {
-        word: u64,
-    },
-    Stepped {
-        statement: usize,
-    },
-    /// The closing, and the statements that were stepped in the instant, in their order.
-    Closed {
-        closing: Closing,
-        stepped: Vec<usize>,
-    },
-    Reacted {
-        word: u64,
-        closing: Closing,
-        stepped: Vec<usize>,
-    },
-    Refused {
-        refusal: Refusal,
-    },
-    /// A record of a wrong length.
-    RecordLengthRefused,
-    /// A record of the right length with random bytes: any refusal of a record will do.
-    RecordRefused,
+    Begun { word: u64 },
+    Stepped { statement: usize },
+    Closed { instant: Instant },
+    Reacted { word: u64, instant: Instant },
+    TookOver,
+    Refused { refusal: Refusal },
+}
+
+/// What a count did on its two boards.
+pub struct Relay {
+    pub before: Vec<Answer>,
+    pub record: Vec<u8>,
+    pub after: Vec<Answer>,
+}
+
+const TITLES: [&str; 2] = [
+    "from a bit board to a stamp board",
+    "from a stamp board to a bit board",
+];
+
+impl Instant {
+    /// What tells one instant from another: all but the order of the steps.
+    fn compared(&self) -> (Closing, &[Mark], Vec<usize>) {
+        (self.closing, &self.marks, sorted(&self.stepped))
+    }
+}
+
+impl fmt::Display for Instant {
+    fn fmt(&self, f: &mut fmt::Formatter<'_>) -> fmt::Result {
+        let marks: String = self.marks.iter().map(|mark| mark.letter()).collect();
+        write!(f, "{} marks {marks} stepped", self.closing)?;
+        self.stepped
+            .iter()
+            .try_for_each(|step| write!(f, " {step}"))
+    }
 }
 
 impl Answer {
-    /// The number of the refusal; 61 for all of a record.
-    pub fn refusal(&self) -> Option<u8> {
+    pub fn refusal(&self) -> Option<Refusal> {
+        match *self {
+            Answer::Refused { refusal } => Some(refusal),
+            _ => None,
+        }
+    }
+
+    pub fn instant(&self) -> Option<&Instant> {
         match self {
-            Answer::Refused { refusal } => Some(refusal.number()),
-            Answer::RecordLengthRefused | Answer::RecordRefused => Some(61),
+            Answer::Closed { instant } | Answer::Reacted { instant, .. } => Some(instant),
             _ => None,
         }
     }
@@ -61,28 +87,64 @@ impl fmt::Display for Answer {
         match self {
             Answer::Begun { word } => write!(f, "begin {word:016x}"),
             Answer::Stepped { statement } => write!(f, "step {statement}"),
-            Answer::Closed { closing, stepped } => {
-                write!(f, "close {closing}")?;
-                write_stepped(f, stepped)
-            }
-            Answer::Reacted {
-                word,
-                closing,
-                stepped,
-            } => {
-                write!(f, "react {word:016x} {closing}")?;
-                write_stepped(f, stepped)
-            }
+            Answer::Closed { instant } => write!(f, "close {instant}"),
+            Answer::Reacted { word, instant } => write!(f, "react {word:016x} {instant}"),
+            Answer::TookOver => write!(f, "take over"),
             Answer::Refused { refusal } => write!(f, "{refusal}"),
-            Answer::RecordLengthRefused => write!(f, "refused 61 0"),
-            Answer::RecordRefused => write!(f, "refused record"),
         }
     }
 }
 
-fn write_stepped(f: &mut fmt::Formatter<'_>, stepped: &[usize]) -> fmt::Result {
-    write!(f, " stepped")?;
-    stepped.iter().try_for_each(|step| write!(f, " {step}"))
+impl Relay {
+    fn instants(&self) -> impl Iterator<Item = &Instant> {
+        let answers = self.before.iter().chain(&self.after);
+        answers.filter_map(Answer::instant)
+    }
+}
+
+impl fmt::Display for Relay {
+    fn fmt(&self, f: &mut fmt::Formatter<'_>) -> fmt::Result {
+        self.before
+            .iter()
+            .try_for_each(|answer| writeln!(f, "{answer}"))?;
+        let record: String = self
+            .record
+            .iter()
+            .map(|byte| format!("{byte:02x}"))
+            .collect();
+        writeln!(f, "hand over {record}")?;
+        writeln!(f, "taken over")?;
+        self.after
+            .iter()
+            .try_for_each(|answer| writeln!(f, "{answer}"))
+    }
+}
+
+/// Whether the closed instants of both relays are the same.
+pub fn same_instants(relays: &[Relay; 2]) -> bool {
+    let [one, other] = relays;
+    one.instants()
+        .map(Instant::compared)
+        .eq(other.instants().map(Instant::compared))
+}
+
+/// What `handover` prints of two relays.
+pub fn text(relays: &[Relay; 2]) -> String {
+    let relays_with_titles = TITLES.iter().zip(relays);
+    let told: String = relays_with_titles
+        .map(|(title, relay)| format!("{title}\n{relay}"))
+        .collect();
+    let verdict = match same_instants(relays) {
+        true => "the same instants",
+        false => "other instants",
+    };
+    format!("{told}{verdict}\n")
+}
+
+pub fn sorted(steps: &[usize]) -> Vec<usize> {
+    let mut steps = steps.to_vec();
+    steps.sort_unstable();
+    steps
 }
 
 /// The statements that a react to the word steps.
@@ -97,8 +159,8 @@ fn steps_of_react(count: &Count, word: u64) -> Result<Vec<usize>, Refusal> {
     Ok(stepped)
 }
 
-/// Carries out a call, if it is not refused. A record is never taken over. `stepped` has the statements that were stepped in
-/// the open instant.
+/// Carries out a call, if it is not refused. `stepped` has the statements that were stepped in the
+/// open instant, since a record was last taken over.
 pub fn answer(count: &mut Count, stepped: &mut Vec<usize>, call: &Call) -> Answer {
     let answer = match *call {
         Call::Begin { word } => count.begin(word).map(|()| Answer::Begun { word }),
@@ -106,25 +168,39 @@ pub fn answer(count: &mut Count, stepped: &mut Vec<usize>, call: &Call) -> Answe
             stepped.push(statement);
             Answer::Stepped { statement }
         }),
-        Call::Close => count.close().map(|closing| Answer::Closed {
-            closing,
-            stepped: std::mem::take(stepped),
+        Call::Close => close(count, stepped),
+        Call::React { word } => react(count, word),
+        Call::TakeOver { ref record } => count.take_over(record).map(|()| {
+            stepped.clear();
+            Answer::TookOver
         }),
-        Call::React { word } => steps_of_react(count, word).and_then(|stepped| {
-            count.react(word).map(|closing| Answer::Reacted {
-                word,
-                closing,
-                stepped,
-            })
-        }),
-        Call::TakeOver { ref record } if record.len() == RECORD_BYTES => Ok(Answer::RecordRefused),
-        Call::TakeOver { .. } => Ok(Answer::RecordLengthRefused),
     };
     answer.unwrap_or_else(|refusal| Answer::Refused { refusal })
 }
 
+fn close(count: &mut Count, stepped: &mut Vec<usize>) -> Result<Answer, Refusal> {
+    let closing = count.close()?;
+    let instant = Instant {
+        closing,
+        marks: count.state().marks.clone(),
+        stepped: std::mem::take(stepped),
+    };
+    Ok(Answer::Closed { instant })
+}
+
+fn react(count: &mut Count, word: u64) -> Result<Answer, Refusal> {
+    let stepped = steps_of_react(count, word)?;
+    let closing = count.react(word)?;
+    let instant = Instant {
+        closing,
+        marks: count.state().marks.clone(),
+        stepped,
+    };
+    Ok(Answer::Reacted { word, instant })
+}
+
 /// Writes a list of calls: their number, and then the calls.
-pub fn write(calls: &[Call], bytes: &mut Vec<u8>) {
+pub fn write(calls: &[&Call], bytes: &mut Vec<u8>) {
     bytes.extend((calls.len() as u16).to_le_bytes());
     for call in calls {
         match call {
@@ -150,23 +226,13 @@ pub fn write(calls: &[Call], bytes: &mut Vec<u8>) {
     }
 }
 
-/// The answers to four lists of calls, two for each of two counts, which go on without a hand-over.
+/// What `handover` prints of a routine and four lists of calls.
 pub fn listing(input: &[u8]) -> Option<String> {
     let mut bytes = Bytes { rest: input };
     let length = bytes.number()?;
     let routine = table::load(bytes.take(length)?).ok()?;
-    let mut text = String::new();
-    for _ in 0..2 {
-        let mut count = Count::new(&routine);
-        let mut stepped = Vec::new();
-        for _ in 0..2 {
-            for _ in 0..bytes.number()? {
-                let answer = answer(&mut count, &mut stepped, &bytes.call()?);
-                text.push_str(&format!("{answer}\n"));
-            }
-        }
-    }
-    Some(text)
+    let relays = [bytes.relay(&routine)?, bytes.relay(&routine)?];
+    Some(text(&relays))
 }
 
 struct Bytes<'a> {
@@ -186,6 +252,28 @@ impl<'a> Bytes<'a> {
 
     fn word(&mut self) -> Option<u64> {
         self.take(8).map(run::word)
+    }
+
+    /// Carries out two lists, and hands over in between.
+    fn relay(&mut self, routine: &Routine) -> Option<Relay> {
+        let mut stepped = Vec::new();
+        let mut count = Count::new(routine);
+        let before = self.carry_out(&mut count, &mut stepped)?;
+        let record = count.record();
+        let mut count = Count::new(routine);
+        count.take_over(&record).ok()?;
+        let after = self.carry_out(&mut count, &mut stepped)?;
+        Some(Relay {
+            before,
+            record,
+            after,
+        })
+    }
+
+    fn carry_out(&mut self, count: &mut Count, stepped: &mut Vec<usize>) -> Option<Vec<Answer>> {
+        (0..self.number()?)
+            .map(|_| Some(answer(count, stepped, &self.call()?)))
+            .collect()
     }
 
     fn call(&mut self) -> Option<Call> {

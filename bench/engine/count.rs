@@ -3,6 +3,7 @@
 use std::fmt;
 
 use crate::front::{Front, Guides};
+use crate::record::{self, Standing};
 use crate::refusal::Refusal;
 use crate::rules::State;
 use crate::signals::Signals;
@@ -13,6 +14,25 @@ pub enum Phase {
     Resting,
     Open,
     Over,
+}
+
+impl Phase {
+    pub fn from_byte(byte: u8) -> Option<Phase> {
+        match byte {
+            0 => Some(Phase::Resting),
+            1 => Some(Phase::Open),
+            2 => Some(Phase::Over),
+            _ => None,
+        }
+    }
+
+    pub fn byte(self) -> u8 {
+        match self {
+            Phase::Resting => 0,
+            Phase::Open => 1,
+            Phase::Over => 2,
+        }
+    }
 }
 
 #[derive(Clone, Copy, Debug, PartialEq, Eq)]
@@ -127,6 +147,25 @@ impl<'r> Count<'r> {
             self.make_step(statement);
         }
         Ok(self.make_close())
+    }
+
+    /// Goes on from where a record stands.
+    pub fn take_over(&mut self, bytes: &[u8]) -> Result<(), Refusal> {
+        let standing = record::read(self.routine, bytes)?;
+        self.phase = standing.phase;
+        self.closed = standing.closed;
+        self.steps = standing.steps;
+        self.state = standing.state;
+        Ok(())
+    }
+
+    pub fn record(&self) -> Vec<u8> {
+        record::write(&Standing {
+            phase: self.phase,
+            closed: self.closed,
+            steps: self.steps,
+            state: self.state.clone(),
+        })
     }
 
     pub fn lowest_ready(&self) -> Option<usize> {

@@ -1,11 +1,13 @@
 //! A plain engine for counting routines, and what is needed to compare another one with it.
 //!
-//! Without arguments it does what the program `run` does; with `front` too, but it searches for the lowest ready
-//! statement from a front. `generate FOLDER SEED N` writes N inputs for `run` into a folder, and `tally FOLDER N` says
-//! what happens in them. `test-orders SEED N` carries out the steps of N random routines in two orders each, and
-//! `write-orders FOLDER SEED N` writes the same as inputs for the program `handover`, with the answers. `calls` answers
-//! such an input, without a hand-over.
+//! Without arguments it does what the program `run` does; with `front` too, but it searches for
+//! the lowest ready statement from a front. `generate FOLDER SEED N` writes N inputs for `run` into
+//! a folder, and `tally FOLDER N` says what happens in them. `test-orders SEED N` carries out the
+//! steps of N random routines in two orders each, and `write-orders FOLDER SEED N` writes the same
+//! as inputs for the program `handover`, with the outputs that are wanted. `calls` does what
+//! `handover` does with such an input.
 
+mod alter;
 mod calls;
 mod count;
 mod damage;
@@ -15,12 +17,14 @@ mod generate;
 mod grow;
 mod orders;
 mod random;
+mod record;
 mod refusal;
 mod rules;
 mod run;
 mod signals;
 mod table;
 mod tally;
+mod totals;
 
 use std::error::Error;
 use std::io::{self, Read, Write};
@@ -36,7 +40,7 @@ fn main() -> Result<(), Box<dyn Error>> {
             generate::write(Path::new(folder), seed.parse()?, n.parse()?)?
         }
         ["tally", folder, n] => tally::print(Path::new(folder), n.parse()?)?,
-        ["test-orders", seed, n] => orders::test(seed.parse()?, n.parse()?),
+        ["test-orders", seed, n] => orders::test(seed.parse()?, n.parse()?)?,
         ["write-orders", folder, seed, n] => {
             orders::write(Path::new(folder), seed.parse()?, n.parse()?)?
         }

@@ -20,6 +20,9 @@ pub enum Refusal {
     NotReady { statement: usize },
     NotOpenToClose,
     StillReady { statement: usize },
+    RecordForm,
+    RecordHead { offset: usize },
+    RecordMarks { statement: usize },
 }
 
 impl Refusal {
@@ -41,6 +44,9 @@ impl Refusal {
             Refusal::NotReady { .. } => 43,
             Refusal::NotOpenToClose => 51,
             Refusal::StillReady { .. } => 52,
+            Refusal::RecordForm => 61,
+            Refusal::RecordHead { .. } => 62,
+            Refusal::RecordMarks { .. } => 63,
         }
     }
 
@@ -51,8 +57,10 @@ impl Refusal {
             | Refusal::AlreadyOver
             | Refusal::NoInstantLeft
             | Refusal::NotOpenToStep
-            | Refusal::NotOpenToClose => 0,
+            | Refusal::NotOpenToClose
+            | Refusal::RecordForm => 0,
             Refusal::SignalKind { signal } | Refusal::NotInput { signal } => signal,
+            Refusal::RecordHead { offset } => offset,
             Refusal::Record { statement }
             | Refusal::Parts { statement }
             | Refusal::SignalUse { statement }
@@ -60,7 +68,8 @@ impl Refusal {
             | Refusal::EndlessLoop { statement }
             | Refusal::NoSuchStatement { statement }
             | Refusal::NotReady { statement }
-            | Refusal::StillReady { statement } => statement,
+            | Refusal::StillReady { statement }
+            | Refusal::RecordMarks { statement } => statement,
         }
     }
 }

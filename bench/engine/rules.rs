@@ -12,6 +12,36 @@ pub enum Mark {
     Done,
 }
 
+impl Mark {
+    pub fn from_byte(byte: u8) -> Option<Mark> {
+        match byte {
+            0 => Some(Mark::Idle),
+            1 => Some(Mark::Waiting),
+            2 => Some(Mark::UnderWay),
+            3 => Some(Mark::Done),
+            _ => None,
+        }
+    }
+
+    pub fn byte(self) -> u8 {
+        match self {
+            Mark::Idle => 0,
+            Mark::Waiting => 1,
+            Mark::UnderWay => 2,
+            Mark::Done => 3,
+        }
+    }
+
+    pub fn letter(self) -> char {
+        match self {
+            Mark::Idle => '-',
+            Mark::Waiting => 'w',
+            Mark::UnderWay => 'u',
+            Mark::Done => 'd',
+        }
+    }
+}
+
 #[derive(Clone, Debug, PartialEq, Eq)]
 pub struct State {
     pub marks: Vec<Mark>,
@@ -79,7 +109,12 @@ impl State {
     }
 
     pub fn is_ready(&self, routine: &Routine, number: usize) -> bool {
-        self.has_step(routine, number) && !routine.around(number).any(|s| self.is_shut(routine, s))
+        self.has_step(routine, number) && !self.is_inside_shut(routine, number)
+    }
+
+    /// Whether a statement lies inside a shut local.
+    pub fn is_inside_shut(&self, routine: &Routine, number: usize) -> bool {
+        routine.around(number).any(|s| self.is_shut(routine, s))
     }
 
     fn is_shut(&self, routine: &Routine, number: usize) -> bool {
