@@ -10,5 +10,6 @@ pub returns : goal.returns
 unfolding is_fixed_right
 returns c =
     let P = is_wrong (length (table_kinds c.args.routine.now.table)) c.args.bytes.now in
-    ap not (any_from_yields_List P _ _ _ c.any.ensures.ran (YieldsList-from_range 0 279 279 refl refl)
+    ap not
+    (any_from_yields_List P _ _ _ c.any.ensures.ran (YieldsList-from_range 0 279 279 refl refl)
     (λ x b q k. (search (rules, tests), search (rules, tests))))
