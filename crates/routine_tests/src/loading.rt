@@ -4,9 +4,11 @@ use std::process::Abort;
 use std::test::Fail;
 
 // A table that is refused: its signals, its records, the place of the refusal.
+#[derive(Clone, Copy)]
 struct Bad<'a>(&'a [u8], &'a [[u8; 4]], usize);
 
 // A table that is a routine: its signals, its records.
+#[derive(Clone, Copy)]
 struct Good<'a>(&'a [u8], &'a [[u8; 4]]);
 
 fn refuses(rt: &(impl Abort + AllocGlobal), bytes: &[u8], number: u8, place: usize) {
@@ -49,16 +51,13 @@ fn limits(rt: HostRuntime) -> Result<(), Fail> {
         &rt,
         &[Good(&[INPUT; MOST_SIGNALS], &most), Good(&[], &most)],
     )?;
-    let more = nest(rt.alloc(), MOST_STATEMENTS + 1)?;
     refuses_all(
         &rt,
         11,
-        &[
-            Bad(&[INPUT; MOST_SIGNALS + 1], &most, 0),
-            Bad(&[INPUT; MOST_SIGNALS], &more, 0),
-            Bad(&[], &[], 0),
-        ],
-    )
+        &[Bad(&[INPUT; MOST_SIGNALS + 1], &most, 0), Bad(&[], &[], 0)],
+    )?;
+    let more = nest(rt.alloc(), MOST_STATEMENTS + 1)?;
+    refuses_all(&rt, 11, &[Bad(&[INPUT; MOST_SIGNALS], &more, 0)])
 }
 
 // A table of one nothing.
