@@ -8,10 +8,11 @@ pub loop-left-preserved : goal.loop-left-preserved
 loop-left-preserved c =
     let h = c.args.header in
     let e = c.push.ensures in
+    let kind = c.in_ok-kind.kind in
     let fit = c.if-not-fits.ensures
-    ∙ ap (λ (m : ℕ). fits h.signals h.statements m c.in_ok-kind.kind) c.len-statement.ensures.value in (
+    ∙ ap (λ (m : ℕ). fits h.signals h.statements m kind) c.len-statement.ensures.value in (
       records_more h.signals h.statements _ c.loop-left.left.now (search rules) _ _
-          c.loop-left.invariant.0 c.push.new.self.items c.in_ok-kind.kind c.new.result
+          c.loop-left.invariant.0 c.push.new.self.items kind c.new.result
           (array_vec_len c.push.new.self) (search rules) fit c.new.ensures e.items e.len,
       search (rules, arith),
     )
