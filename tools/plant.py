@@ -12,7 +12,7 @@ A list is tools/plants/CRATE.txt. A plant is a block of lines, and an empty line
     function: step             where it stands; Rows::mark where other functions have the name
     what: two steps are made   what is wrong there, in plain words
     refused by: one is made    the promise that refuses it
-    file: src/calls.rt
+    file: src/instants.rt
     old: a line's text         which stands once in that file
     new: another               what stands there instead
 

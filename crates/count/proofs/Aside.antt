@@ -33,6 +33,7 @@ to_parts vs i (two_parts sequence a b) h = ((h a).0 refl, (h b).1 refl)
 to_parts vs i (two_parts parallel a b) h = ((h a).1 (inl refl), (h b).1 (inr refl))
 to_parts vs i (two_parts (when s) a b) h = ((h a).1 (inl refl), (h b).1 (inr refl))
 
+-- so it is with what the definition says of any part
 pub from_parts : (vs : List ℕ) (i : ℕ) (r : Shape) → PartsGuarded vs i r → (a : ℕ)
     → (LooksAt r a → entry vs a ≡ i) × (OverBy r a → entry vs a ≡ entry vs i)
 from_parts vs i (no_part k) h c = (λ x. absurd x, λ x. absurd x)
@@ -48,6 +49,7 @@ sequence_by : (e : Signals) (m m' : Mark) (o o' : Bool) → o' ≡ o
     → two_rule e m' sequence o' ≡ two_rule e m sequence o
 sequence_by e m m' o o' h = grind arith
 
+-- a parallel has no rule of its own
 pub parallel_rests : (e : Signals) (m : Mark) (o : Bool) → two_rule e m parallel o ≡ false
 parallel_rests e m o = grind arith
 

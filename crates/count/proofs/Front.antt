@@ -144,6 +144,7 @@ module _ (gs : List SignalKind) (ks : List Kind) (C : Checked gs ks) where
     second_false : (a b : Bool) → (a && b) ≡ false → a ≡ true → b ≡ false
     second_false a b h x = grind arith
 
+    -- where the guard lies below the front and its rule applies, it is the lowest ready statement
     pub guard_lowest : (ltb g f && rule (tree_at ks g) ms e) ≡ true
         → Some g ≡ lowest (ready (tree_at ks 0) ms e) (length ks)
     guard_lowest h =
@@ -170,6 +171,7 @@ module _ (gs : List SignalKind) (ks : List Kind) (C : Checked gs ks) where
         → P k ≡ false
     all_low h k i l x = elim (dec_lt k f) [ yes y ↦ low h k y | no d ↦ x (omega arith) l ]
 
+    -- where not, it is what a search from the front on finds
     pub from_lowest : (ltb g f && rule (tree_at ks g) ms e) ≡ false → (n : ℕ) → n ≡ length ks
         → (r : Option ℕ)
         → MatchOption r ((k : ℕ) → f ≤ k → k < n → P k ≡ false)
@@ -183,9 +185,11 @@ module _ (gs : List SignalKind) (ks : List Kind) (C : Checked gs ks) where
         sym (lowest_here P (length ks) i (lowest_none P i (λ k x. all_low h k i x (m.3 k))) m.2
         (omega arith)) ∙ by_rule gs ks C ms e
 
+-- from 0 on nothing lies below the front
 pub quiet_start : (ks : List Kind) (ms : List Mark) (e : Signals) (g : ℕ) → QuietBelow ks ms e 0 g
 quiet_start ks ms e g = record { within = omega arith; quiet = λ j l. absurd (omega arith) }
 
+-- equal rows, signals and fronts will do
 pub quiet_moved : (ks ls : List Kind) (ms ns : List Mark) (d e : Signals) (f f' g g' : ℕ) → ls ≡ ks
     → ns ≡ ms → e ≡ d → f' ≡ f → g' ≡ g → QuietBelow ks ms d f g → QuietBelow ls ns e f' g'
 quiet_moved ks ls ms ns d e f f' g g' p q r s t c =

@@ -3,6 +3,7 @@ use Rattle.std.proofs.Common.{◌≡◌, ℕ, ◌+◌, ◌<◌, ◌≤◌, List,
 use Rattle.std.proofs.Common.{inr, arith, get_or-set_same, get_or-set_other, length-set}
 use native.Mathlib.Decide.{ℕ_discrete}
 use Rattle.routine.specs.declared.kinds.Kind.{Kind}
+use Rattle.routine.specs.declared.tables.TheConstants.{MOST_STATEMENTS}
 use Rattle.routine.specs.Kinds.{Two, sequence, parallel, when, Shape, no_part, one_part, two_parts}
 use Rattle.routine.specs.Kinds.{shape_at}
 use Rattle.routine.proofs.Trees.{Part, Rising, Under, self}
@@ -12,7 +13,7 @@ use Rattle.count.proofs.Aside.{PartsGuarded, from_parts}
 
 -- the guards of the parts of the statements below i
 pub record Guarded (ks : List Kind) (vs : List ℕ) (i : ℕ) : Type 0 where
-  pub size : length vs ≡ 256
+  pub size : length vs ≡ MOST_STATEMENTS
   pub below : (j : ℕ) → j < i → PartsGuarded vs j (shape_at ks j)
 
 size_with : (vs : List ℕ) (i : ℕ) (r : Shape) → length (with_guards vs i r) ≡ length vs
@@ -48,12 +49,14 @@ same_guards vs us i (two_parts parallel a b) e f h =
 same_guards vs us i (two_parts (when s) a b) e f h =
     (f a (inl refl) ∙ h.0 ∙ sym e, f b (inr refl) ∙ h.1 ∙ sym e)
 
+-- all of them
 pub guarded_all : (ks : List Kind) (vs : List ℕ) (i : ℕ) → length ks ≤ i → Guarded ks vs i
     → Guards ks vs
 guarded_all ks vs i l h j b = from_parts vs j (shape_at ks j) (h.below j (omega arith))
 
-module _ (ks : List Kind) (S : Rising ks) (O : Once ks) (few : length ks ≤ 256) where
-  written : (vs : List ℕ) (a b x y : ℕ) → length vs ≡ 256 → a < 256 → b < 256 → ¬ (a ≡ b)
+module _ (ks : List Kind) (S : Rising ks) (O : Once ks) (few : length ks ≤ MOST_STATEMENTS) where
+  written : (vs : List ℕ) (a b x y : ℕ) → length vs ≡ MOST_STATEMENTS → a < MOST_STATEMENTS
+      → b < MOST_STATEMENTS → ¬ (a ≡ b)
       → (entry (set (set vs a x) b y) a ≡ x) × (entry (set (set vs a x) b y) b ≡ y)
   written vs a b x y e l m d =
       let z = length-set vs a x in (
@@ -61,7 +64,7 @@ module _ (ks : List Kind) (S : Rising ks) (O : Once ks) (few : length ks ≤ 256
         get_or-set_same (set vs a x) b y 0 (omega arith),
       )
 
-  at_row : (vs : List ℕ) (i : ℕ) (r : Shape) → length vs ≡ 256
+  at_row : (vs : List ℕ) (i : ℕ) (r : Shape) → length vs ≡ MOST_STATEMENTS
       → ((a : ℕ) → Part r a → (i < a) × (a < length ks))
       → ((k : Two) (a b : ℕ) → r ≡ two_parts k a b → ¬ (a ≡ b))
       → PartsGuarded (with_guards vs i r) i r
@@ -89,6 +92,7 @@ module _ (ks : List Kind) (S : Rising ks) (O : Once ks) (few : length ks ≤ 256
       (λ p. let z = s i p in omega arith)) in
       (w.0 ∙ o, w.1 ∙ o)
 
+  -- those of one statement more
   pub guarded_more : (vs : List ℕ) (i : ℕ) → i < length ks → Guarded ks vs i
       → Guarded ks (with_guards vs i (shape_at ks i)) (i + 1)
   guarded_more vs i l h =

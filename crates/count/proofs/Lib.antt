@@ -1,5 +1,6 @@
 pub mod RowLists
 pub mod Shown
+pub mod OverEnded
 pub mod Sound
 pub mod OutputWords
 pub mod Woken

@@ -23,6 +23,10 @@ word_step P n k b z l e =
     ap₂ (λ x y. x + 2 * y) (ap (λ (v : Bool). cond v 1 0) e) (ap₂ (word_from P) f j)
     ∙ word_more P n (k - 1) (omega arith)
 
+-- a word moved up by one, and its lowest bit says whether P holds of s
+abbrev pub with_bit : (ℕ → Bool) → ℕ → ℕ → ℕ
+with_bit P w s = bit_or (w * 2 % 2 ^ 64) (cond (P s) 1 0)
+
 -- the next bit, below those that stand
 next_bit : (w : ℕ) (b : Bool) → w < 2 ^ 63
     → bit_or (w * 2 % 2 ^ 64) (cond b 1 0) ≡ cond b 1 0 + 2 * w
@@ -33,7 +37,7 @@ next_bit w true l = or_disjoint (w * 2 % 2 ^ 64) 1 (and_mask (w * 2 % 2 ^ 64) 1 
 -- a fold over the numbers below n, from the highest down
 word_folded : (P : ℕ → Bool) (m n : ℕ) (xs : List ℕ) → m ≤ 64 → n ≤ m → length xs ≡ n
     → ((k : ℕ) → k < n → get_or xs k 0 ≡ n - 1 - k)
-    → fold (λ w s. bit_or (w * 2 % 2 ^ 64) (cond (P s) 1 0)) (word_from P (m - n) n) xs
+    → fold (with_bit P) (word_from P (m - n) n) xs
     ≡ word_from P m 0
 word_folded P m n [] few l e h = let z : n ≡ 0 = omega (arith, e) in
     ap₂ (word_from P) (let d : m - n ≡ m = omega arith in d) z
@@ -44,14 +48,15 @@ word_folded P m n (x ∷ xs) few l e h =
     ≡ word_from P (m - (n - 1)) (n - 1) =
     next_bit (word_from P (m - n) n) (P x) (word_fits P (m - n) n (omega arith))
     ∙ word_step P m n (P x) z l (ap P y) in
-    ap (λ w. fold (λ w s. bit_or (w * 2 % 2 ^ 64) (cond (P s) 1 0)) w xs) t
+    ap (λ w. fold (with_bit P) w xs) t
     ∙ word_folded P m (n - 1) xs few (omega arith) (omega (arith, e))
     (λ k b. h (suc k) (omega arith) ∙ omega arith)
 
+-- the fold over all numbers below n makes their word
 pub word_made : (P : ℕ → Bool) (n : ℕ) (xs : List ℕ) → n ≤ 64 → length xs ≡ n
     → ((k : ℕ) → k < n → get_or xs k 0 ≡ n - 1 - k)
-    → fold (λ w s. bit_or (w * 2 % 2 ^ 64) (cond (P s) 1 0)) 0 xs ≡ word_from P n 0
+    → fold (with_bit P) 0 xs ≡ word_from P n 0
 word_made P n xs few l h =
     let z : 0 ≡ n - n = omega arith in
-    ap (λ w. fold (λ w s. bit_or (w * 2 % 2 ^ 64) (cond (P s) 1 0)) w xs)
+    ap (λ w. fold (with_bit P) w xs)
     (ap (λ (f : ℕ). word_from P f n) z) ∙ word_folded P n n xs few (omega arith) l h

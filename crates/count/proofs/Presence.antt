@@ -13,6 +13,7 @@ use Rattle.routine.specs.Kinds.{kind_at}
 use Rattle.routine.specs.Layout.{fits, Formed}
 use Rattle.routine.specs.Meaning.{is_input}
 use Rattle.routine.proofs.Searches.{none_below}
+use Rattle.signals.specs.declared.board.TheConstants.{SIGNALS}
 use Rattle.signals.specs.Sets.{empty, word_set}
 use Rattle.signals.specs.Sizes.{length-word_set}
 use Rattle.signals.proofs.Sets.{get_or-empty, get_or-above}
@@ -22,6 +23,7 @@ use Rattle.record.specs.Sound.{Within}
 use Rattle.count.specs.Calls.{bit, is_not_input, first_not_input}
 use Rattle.count.specs.Machine.{kind_effect}
 
+-- no signal at all is present
 pub within_empty : (g : ℕ) (e : Signals) → e ≡ empty → Within g e
 within_empty g e h = λ s l. ap (λ p. get_or p s false) h ∙ get_or-empty s
 
@@ -57,10 +59,10 @@ pub within_word : (gs : List SignalKind) (word : ℕ) → first_not_input gs wor
     → Within (length gs) (word_set word)
 unfolding first_not_input
 within_word gs word h s l =
-    elim (dec_lt s 64) [
+    elim (dec_lt s SIGNALS) [
       | yes b ↦ get_or-word_set word s b
           ∙ unset (bit word s) (is_input (get_or gs s Own))
-          (none_below (is_not_input gs word) 64 h s b) (ap is_input (get_or_past gs s Own l))
+          (none_below (is_not_input gs word) SIGNALS h s b) (ap is_input (get_or_past gs s Own l))
       | no d ↦ get_or-above (word_set word) s (length-word_set word) (omega arith)
     ]
   where

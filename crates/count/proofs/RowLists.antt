@@ -14,9 +14,10 @@ use Rattle.routine.specs.Layout.{Formed}
 use Rattle.count.specs.Front.{Guards, Waiters}
 use Rattle.routine.specs.Meaning.{passes}
 use Rattle.record.proofs.Lists.{marks_length}
-use Rattle.count.specs.declared.rows.Rows.{Rows}
+use Rattle.count.specs.declared.machine.Rows.{Rows}
 use Rattle.count.specs.View.{kinds_in, signals_in, marks_in, count_in, Marked}
 
+-- a row is written with the kind that it had
 pub kinds_kept : (ss : List Statement) (i : ℕ) (old new : Statement) → i < length ss
     → old ≡ get_or ss i old → new.kind ≡ old.kind → kinds (set ss i new) ≡ kinds ss
 kinds_kept ss i old new l o e =
@@ -25,20 +26,25 @@ kinds_kept ss i old new l o e =
     ∙ sym (get_or-map (λ (r : Statement). r.kind) ss i old old.kind l))
     ∙ set-get_or (kinds ss) i old.kind
 
+-- the marks after it
 pub marks_set : (ss : List Statement) (i : ℕ) (new : Statement) (m : Mark) → new.mark ≡ m
     → marks (set ss i new) ≡ set (marks ss) i m
 marks_set ss i new m e = map-set (λ (r : Statement). r.mark) ss i new ∙ ap (set (marks ss) i) e
 
+-- what is known of kinds holds of equal ones
 pub formed_kept : (g : ℕ) (ks ls : List Kind) → ls ≡ ks → Formed g ks → Formed g ls
 formed_kept g ks ls e f = subst (Formed g) (sym e) f
 
+-- the same of the tests of their meaning
 pub passes_kept : (gs : List SignalKind) (ks ls : List Kind) → ls ≡ ks → passes gs ks ≡ true
     → passes gs ls ≡ true
 passes_kept gs ks ls e f = ap (passes gs) e ∙ f
 
+-- of their guards
 pub guards_kept : (vs : List ℕ) (ks ls : List Kind) → ls ≡ ks → Guards ks vs → Guards ls vs
 guards_kept vs ks ls e g = subst (λ (ms : List Kind). Guards ms vs) (sym e) g
 
+-- and of those that await a signal
 pub waiters_kept : (ws : List ℕ) (ks ls : List Kind) → ls ≡ ks → Waiters ks ws → Waiters ls ws
 waiters_kept ws ks ls e g = subst (λ (ms : List Kind). Waiters ms ws) (sym e) g
 
@@ -53,6 +59,7 @@ pub record Filled (ms : List Mark) (t u : Rows) (i : ℕ) : Type 0 where
   pub len : count_in u ≡ count_in t
   pub filled : (k : ℕ) → k < i → get_or (marks_in u) k Idle ≡ get_or ms k Idle
 
+-- none is written yet
 pub filled_none : (ms : List Mark) (t : Rows) → Filled ms t t 0
 filled_none ms t = record {
   kinds = refl;
@@ -61,6 +68,7 @@ filled_none ms t = record {
   filled = λ k l. absurd (omega arith);
 }
 
+-- one more
 pub filled_more : (ms : List Mark) (t u v : Rows) (i : ℕ) (m : Mark) → i < count_in t
     → m ≡ get_or ms i Idle → Filled ms t u i → Marked u v (slice_set (marks_in u) i m)
     → Filled ms t v (i + 1)
@@ -78,6 +86,7 @@ filled_more ms t u v i m l e f p =
       ];
     }
 
+-- all of them
 pub filled_all : (ms : List Mark) (t u : Rows) → count_in t ≤ length ms → Filled ms t u (count_in t)
     → Marked t u (take (count_in t) ms)
 filled_all ms t u l f =

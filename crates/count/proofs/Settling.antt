@@ -92,6 +92,7 @@ extends_more {s = s} v w g h =
           (b.0, omega arith);
     }
 
+-- no turn was made yet
 pub turned_none : (ks : List Kind) (s : State) (from : Trace) → s.steps ≡ 0
     → Turned ks s s from from 0
 turned_none ks s from e =

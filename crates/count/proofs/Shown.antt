@@ -5,6 +5,7 @@ use Rattle.std.proofs.lemmas.List.{get_or-set_same, get_or-set_other}
 use native.Mathlib.Decide.{ℕ_discrete}
 use Rattle.std.proofs.Math.Nat.{pow-le-pow_right, div-eq_of_lt}
 use Rattle.routine.specs.Search.{or_last, lowest}
+use Rattle.signals.specs.declared.board.TheConstants.{SIGNALS}
 use Rattle.count.specs.Calls.{bit}
 
 -- below i the set has what f says, and from i on nothing
@@ -12,6 +13,7 @@ pub record Shown (f : ℕ → Bool) (i : ℕ) (p : List Bool) : Type 0 where
   pub done : (k : ℕ) → k < i → get_or p k false ≡ f k
   pub ahead : (k : ℕ) → i ≤ k → get_or p k false ≡ false
 
+-- signal i stays absent
 pub shown_keep : (f : ℕ → Bool) (i : ℕ) (p : List Bool) → f i ≡ false → Shown f i p
     → Shown f (i + 1) p
 shown_keep f i p e h =
@@ -24,8 +26,9 @@ shown_keep f i p e h =
       ahead = λ k l. h.ahead k (omega arith);
     }
 
-pub shown_set : (f : ℕ → Bool) (i : ℕ) (p : List Bool) → length p ≡ 64 → i < 64 → f i ≡ true
-    → Shown f i p → Shown f (i + 1) (set p i true)
+-- it is raised
+pub shown_set : (f : ℕ → Bool) (i : ℕ) (p : List Bool) → length p ≡ SIGNALS → i < SIGNALS
+    → f i ≡ true → Shown f i p → Shown f (i + 1) (set p i true)
 shown_set f i p n l e h =
     record {
       done = λ k m. elim (ℕ_discrete k i) [

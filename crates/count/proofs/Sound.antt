@@ -1,68 +1,59 @@
 -- what the calls leave of a count's invariant, over its rows
-use Rattle.std.proofs.Common.{◌≡◌, ℕ, ◌<◌, ◌≤◌, Bool, true, false, ◌||◌, List, length, replicate}
-use Rattle.std.proofs.Common.{sym, refl, ap, ◌∙◌, subst, ap₂, arith, ext_get_or}
+use Rattle.std.proofs.Common.{◌≡◌, ℕ, ◌<◌, Bool, true, false, List, length, replicate, sym, refl}
+use Rattle.std.proofs.Common.{ap, ◌∙◌, subst, ap₂, arith, ext_get_or}
+use Rattle.std.proofs.lemmas.Bool.{true≢false}
 use lib.ListN.{length-replicate}
 use Rattle.routine.specs.declared.kinds.Kind.{Kind}
 use Rattle.routine.specs.Tree.{tree_at}
 use Rattle.routine.specs.Search.{lowest}
-use Rattle.rules.specs.Rules.{rule, leaf_rule, two_rule, Leaf, Two, is_done, two_over, two_ended}
-use Rattle.rules.specs.Rules.{Mark, Idle, Signals, Tree, leaf, one, two, at, begun, idled, over}
-use Rattle.rules.specs.Rules.{ready, fire, ended}
-use Rattle.rules.specs.Legal.{Legal, keeps, two_legal}
+use Rattle.rules.specs.Rules.{rule, leaf_rule, two_rule, Leaf, Two, Mark, Idle, Signals, Tree, leaf}
+use Rattle.rules.specs.Rules.{one, two, at, begun, idled, over, ready, fire, ended}
+use Rattle.rules.specs.Legal.{Legal, keeps}
 use Rattle.rules.specs.Model.{first_marks, status_of}
 use Rattle.rules.specs.Theorems.{Checked, MarksStayLegal}
-use Rattle.rules.proofs.MarkedTrees.{live, Legal as Lawful}
 use Rattle.rules.proofs.Shapes.{marked}
-use Rattle.rules.proofs.Frames.{In, idled_same, idled_kept, marked_rest, over_same}
+use Rattle.rules.proofs.Frames.{In, idled_same, idled_kept, marked_rest}
 use Rattle.rules.proofs.FlatRuns.{same_marks}
-use Rattle.rules.proofs.Positions.{idle_over}
 use Rattle.rules.proofs.Table.{sound}
 use Rattle.rules.proofs.Instants.{idle_blank}
 use Rattle.rules.proofs.Final.{to_legal}
 use Rattle.rules.proofs.Promises.{rows}
 use Rattle.rules.proofs.Checked.{table, of_routine}
 use Rattle.rules.proofs.Stays.{marks_stay_legal}
-use Rattle.count.specs.declared.rows.Rows.{Rows}
-use Rattle.count.specs.View.{kinds_in, marks_in, signals_in, count_in, tree_in, Marked}
+use Rattle.rules.proofs.Inward.{own_rule}
+use Rattle.rules.proofs.Lowest.{by_rule}
 use Rattle.record.specs.declared.phases.Phase.{Phase}
 use Rattle.record.specs.Phases.{is_open, is_over, phase_of}
+use Rattle.record.proofs.Lists.{marks_many}
+use Rattle.count.specs.declared.machine.Rows.{Rows}
 use Rattle.count.specs.Calls.{phase_after}
 use Rattle.count.specs.Machine.{leaf_signal_present, two_signal_present, leaf_applies, two_applies}
 use Rattle.count.specs.Machine.{applies, own_signal_present}
-use Rattle.rules.proofs.Inward.{own_rule}
-use Rattle.rules.proofs.Lowest.{by_rule}
-use Rattle.record.proofs.Lists.{marks_many, kinds_many as table_kinds_many}
+use Rattle.count.specs.View.{kinds_in, marks_in, signals_in, tree_in, Marked}
+use Rattle.count.proofs.OverEnded.{over_ended}
 
+-- each statement keeps its rule
 abbrev pub Keeps : Bool → List Kind → List Mark → Type 0
 Keeps in_instant ks ms = (i : ℕ) → i < length ks → keeps in_instant ks ms i ≡ true
 
 module _ (t : Rows) where
+  -- a routine has passed the tests of its meaning
   pub checked : Checked (signals_in t) (kinds_in t)
   checked = of_routine t.routine
 
+  -- as many marks as statements
   pub many : length (marks_in t) ≡ length (kinds_in t)
   many = marks_many t.routine.table
 
-  pub kinds_many : length (kinds_in t) ≡ count_in t
-  kinds_many = table_kinds_many t.routine.table
-
-  pub some_row : 0 < count_in t
-  some_row = t.routine.table.some
-
+  -- so its marks are legal
   pub legal : (in_instant : Bool) → Keeps in_instant (kinds_in t) (marks_in t)
       → Legal in_instant (kinds_in t) (marks_in t)
   legal in_instant h = record { many = many; each = h }
 
-  pub few : length (kinds_in t) ≤ 256
-  few = let m = kinds_many in let l = t.routine.table.most in omega arith
-
-  pub open_legal : (p : Phase) → is_open p ≡ true → Keeps (is_open p) (kinds_in t) (marks_in t)
-      → Legal true (kinds_in t) (marks_in t)
-  open_legal p o h = legal true (subst (λ b. Keeps b (kinds_in t) (marks_in t)) o h)
-
   pub stays : MarksStayLegal (signals_in t) (kinds_in t)
   stays = marks_stay_legal (signals_in t) (kinds_in t) checked
 
+  -- the lowest whose own rule applies is the lowest ready one
   pub lowest_rule : (e : Signals)
       → lowest (λ i. rule (tree_in t i) (marks_in t) e) (length (kinds_in t))
       ≡ lowest (ready (tree_in t 0) (marks_in t) e) (length (kinds_in t))
@@ -84,6 +75,7 @@ module _ (t : Rows) where
       ext_get_or Idle (idled u ms) os (k ∙ sym (length-replicate (length ks) Idle))
       (λ i h. same_marks u (idled u ms) os e i (S.whole i (omega arith)))
 
+  -- begun from idle, the marks are the first ones
   pub begun_anew : (u v : Rows) → Marked t u (idled (tree_in t 0) (marks_in t))
       → Marked u v (begun (tree_in u 0) (marks_in u)) → marks_in v ≡ first_marks (kinds_in t)
   begun_anew u v a b =
@@ -97,6 +89,7 @@ moved in_instant t u ms e f L =
     subst (λ (ks : List Kind). Keeps in_instant ks (marks_in u)) (sym e)
     (subst (Keeps in_instant (kinds_in t)) (sym f) L.each)
 
+-- the marks of a new count are legal
 pub new_keeps : (t u v : Rows) → Marked t u (idled (tree_in t 0) (marks_in t))
     → Marked u v (begun (tree_in u 0) (marks_in u)) → Keeps false (kinds_in v) (marks_in v)
 new_keeps t u v a b = moved false t v _ (b.kinds ∙ a.kinds) (begun_anew t u v a b) (stays t).starts
@@ -153,9 +146,11 @@ ready_applies t e k was_present r h =
     ∙ own_rule ks T.shaped T.once (marks_in t) e k T.some_row
     (ready_in (tree_in t 0) (marks_in t) e k r) r
 
+-- a Boolean is not both
 pub never : (b : Bool) → b ≡ true → b ≡ false → ⊥
-never b p q = let z : ◌≡◌ {A = ℕ} 0 1 = cc in omega arith
+never b p q = true≢false (sym p ∙ q)
 
+-- and after a step, in the phase of an open instant
 pub step_sound : (p : Phase) (t u : Rows) (e : Signals) (k : ℕ) → is_open p ≡ true
     → Keeps (is_open p) (kinds_in t) (marks_in t) → ready (tree_in t 0) (marks_in t) e k ≡ true
     → Marked t u (fire (tree_in t k) (marks_in t)) → Keeps (is_open p) (kinds_in u) (marks_in u)
@@ -163,36 +158,20 @@ step_sound p t u e k o h r m =
     subst (λ b. Keeps b (kinds_in u) (marks_in u)) (sym o)
     (step_keeps t u e k (subst (λ b. Keeps b (kinds_in t) (marks_in t)) o h) r m)
 
--- what is over keeps its marks at the end
-pub over_ended : (t : Tree) (ms : List Mark) (e : Signals) → Lawful (marked t ms) → over t ms ≡ true
-    → ended t ms e ≡ ms
-over_ended (leaf n k) ms e g o = grind arith
-over_ended (one n k p) ms e g o = grind arith
-over_ended (two n k p q) ms e g o =
-    let a = idle_over (marked p ms) g.1 in let b = idle_over (marked q ms) g.2 in
-    let c = over_same p ms in let d = over_same q ms in
-    two_kept (at ms n) k (over p ms) (over q ms) (live (marked p ms)) (live (marked q ms)) q
-    (λ ns. ended p ns e) (λ ns. ended q ns e) ms n g.0 (λ h w. a h (sym c ∙ w))
-    (λ h w. b h (sym d ∙ w)) o
-  where
-    two_kept : (m : Mark) (k : Two) (x y v w : Bool) (q : Tree) (f g : List Mark → List Mark)
-        (ms : List Mark) (n : ℕ) → two_legal m k v w ≡ true
-        → (v ≡ false → ¬ (x ≡ true)) → (w ≡ false → ¬ (y ≡ true))
-        → (is_done m || two_over k x y) ≡ true → two_ended n m k (two_over k x y) q f g ms ≡ ms
-    two_kept m k x y v w q f g ms n l a b o = grind arith
-
 -- the phase after a close, by the status that it answers
 pub same_phase : (b : Bool) → phase_after b ≡ phase_of (status_of b)
 same_phase true = refl
 same_phase false = refl
 
+-- after a close no instant is open
 pub after_not_open : (b : Bool) → is_open (phase_of (status_of b)) ≡ false
 after_not_open true = refl
 after_not_open false = refl
 
+-- and in phase over statement 0 is over
 pub over_after : (b : Bool) → is_over (phase_of (status_of b)) ≡ true → b ≡ true
 over_after true h = refl
-over_after false h = absurd (never false h refl)
+over_after false h = absurd (true≢false (sym h))
 
 module _ (p : Phase) (t u : Rows) (e : Signals) (o : is_open p ≡ true)
     (h : Keeps (is_open p) (kinds_in t) (marks_in t))
@@ -203,10 +182,12 @@ module _ (p : Phase) (t u : Rows) (e : Signals) (o : is_open p ≡ true)
   kept : Keeps true (kinds_in t) (marks_in t)
   kept = subst (λ b. Keeps b (kinds_in t) (marks_in t)) o h
 
+  -- the marks after a close are legal in the phase after it
   pub close_keeps : Keeps (is_open (phase_of (status_of b))) (kinds_in u) (marks_in u)
   close_keeps = subst (λ c. Keeps c (kinds_in u) (marks_in u)) (sym (after_not_open b))
       (end_keeps t u e kept m)
 
+  -- and if that is over, statement 0 is over
   pub close_finished : is_over (phase_of (status_of b)) ≡ true
       → over (tree_in u 0) (marks_in u) ≡ true
   close_finished z =

@@ -3,22 +3,25 @@ use Rattle.std.proofs.Common.{◌≡◌, ℕ, ◌<◌, ◌≤◌, List, length, 
 use Rattle.std.proofs.Common.{subst, ap₂, arith}
 use Rattle.signals.specs.Sets.{word_set}
 use Rattle.routine.specs.declared.kinds.Kind.{Kind}
+use Rattle.routine.specs.declared.tables.TheConstants.{MOST_SIGNALS}
 use Rattle.routine.specs.declared.kinds.SignalKind.{SignalKind}
 use Rattle.rules.specs.Rules.{Mark, Signals}
-use Rattle.record.specs.declared.records.Saved.{Saved}
+use Rattle.record.specs.declared.reading.Saved.{Saved}
 use Rattle.record.specs.Answers.{answer}
 use Rattle.record.specs.Sound.{Sound}
 use Rattle.record.specs.State.{State}
-use Rattle.record.specs.Taking.{head_in, taking_refusal, saved_in, marks_in as marks_read, state_in}
+use Rattle.record.specs.Record.{record_of}
+use Rattle.record.specs.Taking.{head_in, taking_refusal, saved_in, state_in}
 use Rattle.record.proofs.Answered.{not_refused, answered}
-use Rattle.record.proofs.Lists.{few_kinds, marks_cut}
+use Rattle.record.proofs.Lists.{few_kinds, kinds_many, marks_cut}
+use Rattle.record.proofs.SameBytes.{same_bytes}
 use Rattle.record.proofs.Taken.{taken_sound}
 use Rattle.routine.proofs.Whole.{some_statement}
-use Rattle.count.specs.declared.rows.Rows.{Rows}
+use Rattle.count.specs.declared.machine.Rows.{Rows}
 use Rattle.count.specs.View.{kinds_in, signals_in, marks_in, count_in, Marked}
-use Rattle.count.proofs.Sound.{kinds_many}
 
-pub few_signals : (t : Rows) → length (signals_in t) ≤ 64
+-- not above the most
+pub few_signals : (t : Rows) → length (signals_in t) ≤ MOST_SIGNALS
 few_signals t = let s = t.routine.table.signals.ok.0 in let l = t.routine.table.few in omega arith
 
 module _ (t u : Rows) (bytes : List ℕ) (small : (i : ℕ) → get_or bytes i 0 < 256) (saved : Saved)
@@ -29,6 +32,7 @@ module _ (t u : Rows) (bytes : List ℕ) (small : (i : ℕ) → get_or bytes i 0
   abbrev n : ℕ
   n = length (kinds_in t)
 
+  -- it was not refused
   pub accepted : taking_refusal (signals_in t) (kinds_in t) bytes ≡ None
   accepted = not_refused (taking_refusal (signals_in t) (kinds_in t) bytes) saved
       (saved_in bytes) read
@@ -36,9 +40,12 @@ module _ (t u : Rows) (bytes : List ℕ) (small : (i : ℕ) → get_or bytes i 0
   same : saved ≡ saved_in bytes
   same = answered (taking_refusal (signals_in t) (kinds_in t) bytes) saved (saved_in bytes) read
 
-  marked : marks_in u ≡ marks_read n bytes
-  marked = put.marks ∙ ap₂ (λ (k : ℕ) (ms : List Mark). take k ms) (sym (kinds_many t))
-      (ap (λ s. s.marks) same) ∙ marks_cut n bytes (few_kinds t.routine.table)
+  marked : marks_in u ≡ (state_in n bytes).marks
+  marked =
+      put.marks
+      ∙ ap₂ (λ (k : ℕ) (ms : List Mark). take k ms) (sym (kinds_many t.routine.table))
+      (ap (λ s. s.marks) same)
+      ∙ marks_cut n bytes (few_kinds t.routine.table)
 
   abbrev restored : State
   restored = record {
@@ -49,6 +56,7 @@ module _ (t u : Rows) (bytes : List ℕ) (small : (i : ℕ) → get_or bytes i 0
     present = e;
   }
 
+  -- the state that is left is the one that the record says
   pub taken : restored ≡ state_in n bytes
   unfolding head_in
   taken =
@@ -64,11 +72,20 @@ module _ (t u : Rows) (bytes : List ℕ) (small : (i : ℕ) → get_or bytes i 0
         phase = (head_in bytes).phase;
         closed = (head_in bytes).closed;
         steps = (head_in bytes).steps;
-        marks = marks_read n bytes;
+        marks = (state_in n bytes).marks;
         present = p;
       })
       (shown ∙ ap (λ s. word_set s.head.present) same)
 
+  -- its record is those same bytes
+  pub again : record_of (length (signals_in u)) (length (kinds_in u)) restored ≡ bytes
+  again =
+      ap₂ (λ (g k : ℕ). record_of g k restored) (ap length put.signals) (ap length put.kinds)
+      ∙ ap (record_of (length (signals_in t)) n) taken
+      ∙ same_bytes (signals_in t) (kinds_in t) bytes (few_kinds t.routine.table) (few_signals t)
+      small accepted
+
+  -- and it is sound
   pub sound : Sound (signals_in u) (kinds_in u) restored
   sound =
       subst (λ (gs : List SignalKind). Sound gs (kinds_in u) restored) (sym put.signals)

@@ -1,6 +1,7 @@
 -- what each call answers, and the state that it leaves
 use Rattle.std.specs.Prelude.{◌≡◌, ℕ, ◌+◌, ◌/◌, ◌%◌, ◌^◌, Bool, true, false, cond, not, ◌&&◌, List}
 use Rattle.std.specs.Prelude.{length, Some, None, Option, ◌==◌, nat_lt, slice_index_or}
+use Rattle.signals.specs.declared.board.TheConstants.{SIGNALS}
 use Rattle.signals.specs.Sets.{empty, word_set}
 use Rattle.routine.specs.declared.kinds.Kind.{Kind}
 use Rattle.routine.specs.declared.kinds.SignalKind.{SignalKind}
@@ -17,6 +18,7 @@ use Rattle.routine.specs.Meaning.{is_input, signal_at}
 use Rattle.rules.specs.Rules.{Signals, over, ready, fire, effect_of, apply, ended}
 use Rattle.rules.specs.Model.{word_from, is_output, outputs_of, status_of, first_marks, settled}
 use Rattle.rules.specs.Model.{path, enough, Outcome, instant}
+use Rattle.record.specs.declared.heads.TheConstants.{MOST_INSTANTS}
 use Rattle.record.specs.declared.phases.Phase.{Phase}
 use Rattle.record.specs.declared.phases.Phase.TheVariants.{Resting, Open, Over}
 use Rattle.count.specs.declared.answers.Closing.{Closing}
@@ -48,7 +50,7 @@ is_not_input gs word s = bit word s && not (is_input (slice_index_or gs s Local)
 
 -- the lowest such bit
 unfoldable pub first_not_input : List SignalKind → ℕ → Option ℕ
-first_not_input gs word = lowest (is_not_input gs word) 64
+first_not_input gs word = lowest (is_not_input gs word) SIGNALS
 
 abbrev pub not_input : Option ℕ → Option Refusal
 not_input None = None
@@ -58,7 +60,7 @@ abbrev pub begin_by : Phase → List SignalKind → ℕ → ℕ → Option Refus
 begin_by Open gs closed word = Some AlreadyOpen
 begin_by Over gs closed word = Some AlreadyOver
 begin_by Resting gs closed word =
-    cond (closed == 4294967295) (Some NoInstantLeft) (not_input (first_not_input gs word))
+    cond (closed == MOST_INSTANTS) (Some NoInstantLeft) (not_input (first_not_input gs word))
 
 abbrev pub begin_refusal : List SignalKind → State → ℕ → Option Refusal
 begin_refusal gs s word = begin_by s.phase gs s.closed word

@@ -1,14 +1,11 @@
 -- a count's state, and what a call does to it
-use Rattle.std.specs.Prelude.{◌≡◌, ℕ, Bool, List, length, vec_items, IfErr, Option, Result}
+use Rattle.std.specs.Prelude.{◌≡◌, ℕ, Bool, List, length, IfErr, Option, Result}
 use Rattle.routine.specs.declared.kinds.Kind.{Kind}
 use Rattle.routine.specs.declared.kinds.SignalKind.{SignalKind}
 use Rattle.routine.specs.declared.refusals.Refusal.{Refusal}
 use Rattle.signals.specs.declared.board.Board.{Ghosts}
 use Rattle.count.specs.declared.answers.Closing.{Closing}
 use Rattle.count.specs.declared.counts.Count.{Count}
-use Rattle.count.specs.declared.records.Released.{Released}
-use Rattle.routine.specs.Kinds.{marks}
-use Rattle.routine.specs.View.{table_kinds, table_signals}
 use Rattle.record.specs.State.{State}
 use Rattle.record.specs.Answers.{answer}
 use Rattle.record.specs.Taking.{taking_refusal, state_in}
@@ -32,14 +29,6 @@ module _ {B : Type 0} {G : Ghosts B} where
     marks = marks_in c.rows;
     present = present c.board;
   }
-
-  -- a count of the routine of c, in the state s, left its board and its routine behind
-  pub record Leaves (present : B → List Bool) (c : Count B G) (s : State)
-      (r : Released B) : Type 0 where
-    pub board : present r.board ≡ s.present
-    pub marks : marks (vec_items r.routine.table.statements) ≡ s.marks
-    pub kinds : table_kinds r.routine.table ≡ kinds_of c
-    pub signals : table_signals r.routine.table ≡ signals_of c
 
   -- d has the routine of c
   pub record SameRoutine (c d : Count B G) : Type 0 where

@@ -5,7 +5,7 @@ use Rattle.routine.specs.declared.kinds.Mark.{Mark}
 use Rattle.routine.specs.declared.kinds.SignalKind.{SignalKind}
 use Rattle.routine.specs.Kinds.{kinds, marks}
 use Rattle.routine.specs.Tree.{Tree, tree_at}
-use Rattle.count.specs.declared.rows.Rows.{Rows}
+use Rattle.count.specs.declared.machine.Rows.{Rows}
 
 abbrev pub kinds_in : Rows → List Kind
 kinds_in r = kinds (vec_items r.routine.table.statements)

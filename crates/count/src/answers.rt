@@ -4,16 +4,19 @@ ghost use Rattle.count.specs.Texts.{closing_text};
 use rules::Status;
 use std::fmt;
 
-// What a closed instant answers: its number, the word of present outputs, the status, the steps.
+/// What a closed instant came to.
 #[derive(Clone, Copy, Debug, PartialEq, Eq)]
 pub struct Closing {
+    /// Its number; the first has 1.
     pub instant: u32,
+    /// The present outputs: bit s is set where signal s is one.
     pub outputs: u64,
     pub status: Status,
+    /// How many steps were made in it.
     pub steps: u16,
 }
 
-// The instant, the output word, the status and the steps.
+/// The instant, the word of outputs in sixteen hexadecimal digits, the status and the steps.
 impl fmt::Display for Closing {
     ghost output = { λ c. Some (closing_text c) };
 

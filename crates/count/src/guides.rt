@@ -3,11 +3,11 @@ ghost use Rattle.routine.specs.Kinds.{shape};
 ghost use Rattle.routine.specs.View.{table_kinds};
 ghost use Rattle.count.specs.Front.{Guards, Waiters, with_guards, with_waiter};
 
-use routine::{Kind, Routine};
+use routine::{Kind, MOST_SIGNALS, MOST_STATEMENTS, Routine};
 
 // Writes the guards of the parts of statement i, which is of that kind.
-fn guard_parts(guards: &mut [u8; 256], i: usize, kind: Kind)
-    requires { i < 256 }
+fn guard_parts(guards: &mut [u8; MOST_STATEMENTS], i: usize, kind: Kind)
+    requires { i < MOST_STATEMENTS }
     ensures { guards.new ≡ with_guards guards.old i (shape kind) }
 {
     let guard = guards[i];
@@ -29,10 +29,10 @@ fn guard_parts(guards: &mut [u8; 256], i: usize, kind: Kind)
 
 // The guard of each statement, which is the one above it that its step can make ready; 0 where
 // there is none.
-pub(crate) fn guards_of(routine: &Routine) -> [u8; 256]
+pub(crate) fn guards_of(routine: &Routine) -> [u8; MOST_STATEMENTS]
     ensures { Guards (table_kinds routine.now.table) result }
 {
-    let mut guards = [0; 256];
+    let mut guards = [0; MOST_STATEMENTS];
     for i in 0..routine.count() {
         guard_parts(&mut guards, i, routine.table.kind(i));
     }
@@ -41,23 +41,23 @@ pub(crate) fn guards_of(routine: &Routine) -> [u8; 256]
 
 // Statement i, of that kind, may be the lowest that awaits its signal.
 #[tactic(auto, using(std::proofs::lemmas::List::set_past))]
-fn await_signal(waiters: &mut [u8; 64], i: usize, kind: Kind)
-    requires { i < 256 }
+fn await_signal(waiters: &mut [u8; MOST_SIGNALS], i: usize, kind: Kind)
+    requires { i < MOST_STATEMENTS }
     ensures { waiters.new ≡ with_waiter waiters.old i (shape kind) }
 {
     if let Kind::Wait { signal } | Kind::When { signal, .. } = kind {
         let s = usize::from(signal);
-        if s < 64 {
+        if s < MOST_SIGNALS {
             waiters[s] = waiters[s].min(i as u8);
         }
     }
 }
 
 // The lowest statement that awaits each signal; 255 where there is none.
-pub(crate) fn waiters_of(routine: &Routine) -> [u8; 64]
+pub(crate) fn waiters_of(routine: &Routine) -> [u8; MOST_SIGNALS]
     ensures { Waiters (table_kinds routine.now.table) result }
 {
-    let mut waiters = [u8::MAX; 64];
+    let mut waiters = [u8::MAX; MOST_SIGNALS];
     for i in 0..routine.count() {
         await_signal(&mut waiters, i, routine.table.kind(i));
     }

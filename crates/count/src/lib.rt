@@ -1,22 +1,21 @@
 #![tactic(auto)]
 
 mod answers;
-mod calls;
+mod board_changes;
 mod counts;
+mod fronts;
 mod guides;
+mod hand_over;
+mod instants;
 mod machine;
-mod questions;
 mod reactions;
 mod ready;
-mod records;
-mod rows;
 mod tracers;
-mod trips;
 mod words;
 
 pub use answers::Closing;
+pub use board_changes::{Moved, change_board};
 pub use counts::Count;
+pub use hand_over::Released;
 pub use record::Phase;
-pub use records::Released;
-pub use tracers::{StepRow, Tracer};
-pub use trips::{change_board, forward};
+pub use tracers::{MOST_STEPS, StepRow, Tracer};

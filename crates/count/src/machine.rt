@@ -1,15 +1,44 @@
-ghost use Rattle.std.specs.Prelude.{◌≡◌, ◌<◌, true, length, take, slice_index_or, slice_set};
-ghost use Rattle.routine.specs.Kinds.{shape, kind_at};
-ghost use Rattle.routine.specs.Tree.{node};
-ghost use Rattle.routine.specs.View.{PartsRise};
-ghost use Rattle.rules.specs.Rules.{over, begun, idled, fire, ended};
-ghost use Rattle.count.specs.Machine.{applies};
-ghost use Rattle.count.specs.View.{kinds_in, marks_in, count_in, tree_in, Marked};
+ghost use Rattle.std.specs.Prelude.{◌≡◌};
+ghost use Rattle.routine.specs.Kinds.{kinds};
+ghost use Rattle.count.specs.Front.{Guards, Waiters};
 
-use crate::rows::Rows;
-use routine::{Kind, Mark};
+use crate::guides::{guards_of, waiters_of};
+use routine::{Kind, MOST_SIGNALS, MOST_STATEMENTS, Mark, Routine};
+
+// The statements of a routine with their marks, and what guides the search for the lowest ready
+// one: the plain inside of a count.
+#[derive(Debug, Drop)]
+pub(crate) struct Rows {
+    pub(crate) routine: Routine,
+    pub(crate) guards: [u8; MOST_STATEMENTS],
+    pub(crate) waiters: [u8; MOST_SIGNALS],
+    ghost guarded: { Guards (kinds routine.table.statements.items) guards },
+    ghost awaited: { Waiters (kinds routine.table.statements.items) waiters },
+}
 
 impl Rows {
+    ghost use Rattle.std.specs.Prelude.{true, take, slice_index_or, slice_set};
+    ghost use Rattle.routine.specs.Kinds.{shape, kind_at};
+    ghost use Rattle.routine.specs.Tree.{node};
+    ghost use Rattle.routine.specs.View.{PartsRise};
+    ghost use Rattle.rules.specs.Rules.{over, begun, idled, fire, ended};
+    ghost use Rattle.count.specs.Machine.{applies};
+    ghost use Rattle.count.specs.View.{kinds_in, marks_in, count_in, tree_in, Marked};
+
+    // The rows of a routine, with the marks that it has.
+    pub(crate) fn new(routine: Routine) -> Rows
+        ensures { result.routine ≡ routine }
+    {
+        let guards = guards_of(&routine);
+        let waiters = waiters_of(&routine);
+        Rows {
+            routine,
+            guards,
+            waiters,
+        }
+    }
+
+    // Statement i gets that mark, if there is one of that number.
     fn put(&mut self, i: usize, mark: Mark)
         ensures { Marked self.old self.new (slice_set (marks_in self.old) i mark) }
     {
@@ -19,7 +48,7 @@ impl Rows {
     }
 
     // Each statement gets its mark of these.
-    pub(crate) fn put_all(&mut self, marks: &[Mark; 256])
+    pub(crate) fn put_all(&mut self, marks: &[Mark; MOST_STATEMENTS])
         ensures { Marked self.old self.new (take (count_in self.old) marks.now) }
     {
         for i in 0..self.routine.count() {
@@ -36,6 +65,7 @@ impl Rows {
         self.routine.table.kind(i)
     }
 
+    // The mark of statement i, idle beyond the last one.
     pub(crate) fn mark(&self, i: usize) -> Mark
         ensures { result ≡ slice_index_or (marks_in self.now) i Mark.Idle }
     {

@@ -6,14 +6,15 @@ ghost use Rattle.count.specs.CountView.{kinds_of, state_of, SameRoutine, Reacts}
 
 use crate::answers::Closing;
 use crate::counts::Count;
-use crate::rows::Front;
+use crate::fronts::Front;
 use crate::tracers::{Tracer, Untraced};
 use routine::Refusal;
 use signals::Board;
 
 // A reaction: a whole instant in one call.
 impl<B: Board> Count<B> {
-    // Steps the lowest ready statement, one a turn, until none is ready; how many turns are there?
+    // Steps the lowest ready statement, one a turn, until none is ready. The result is how many
+    // turns there were.
     fn settle<T: Tracer>(&mut self, tracer: &mut T) -> usize
         requires live { is_open self.old.phase ≡ true }
         requires fresh { self.old.steps ≡ 0 }
@@ -38,7 +39,9 @@ impl<B: Board> Count<B> {
         most
     }
 
-    // A reaction that tells the tracer of each of its turns: the statement that it steps.
+    /// A reaction that tells the tracer of each of its turns: the statement that it steps.
+    ///
+    /// Refused as by [`react`](Count::react): then the tracer is unchanged too.
     pub fn react_traced<T: Tracer>(&mut self, word: u64, tracer: &mut T) -> Result<Closing, Refusal>
         ensures reacts { Reacts B.present self.old self.new word result }
         ensures told { IfOk result
@@ -57,8 +60,10 @@ impl<B: Board> Count<B> {
         Ok(closing)
     }
 
-    // A whole instant: begins with the word, steps the lowest ready statement until none is ready,
-    // and closes.
+    /// A whole instant: begins with the word, steps the lowest ready statement until none is ready,
+    /// and closes.
+    ///
+    /// Refused as by [`begin`](Count::begin).
     pub fn react(&mut self, word: u64) -> Result<Closing, Refusal>
         ensures { Reacts B.present self.old self.new word result }
     {

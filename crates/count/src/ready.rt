@@ -4,10 +4,10 @@ ghost use Rattle.rules.specs.Rules.{ready, rule};
 ghost use Rattle.count.specs.Machine.{own_signal_present};
 ghost use Rattle.count.specs.Front.{QuietBelow};
 ghost use Rattle.count.specs.CountView.{kinds_of};
-ghost use Rattle.count.specs.View.{marks_in, count_in, tree_in};
+ghost use Rattle.count.specs.View.{marks_in, tree_in};
 
 use crate::counts::Count;
-use crate::rows::Front;
+use crate::fronts::Front;
 use routine::{Kind, Mark};
 use signals::Board;
 

@@ -2,12 +2,14 @@ ghost use Rattle.std.specs.Prelude.{◌≡◌, true, false, [], ◌∷◌};
 ghost use Rattle.count.specs.Traces.{Trace, Extends, row_trace};
 
 use arrayvec::ArrayVec;
+use routine::MOST_STATEMENTS;
 
-// Who is told of each turn of a reaction: the statement that it steps.
+/// Who is told of each turn of a reaction.
 pub trait Tracer {
     // The statements told so far, whether some are missing, and for how many more there is room.
     ghost trace: { Self → Trace };
 
+    /// Tells of the statement that a turn steps.
     fn step(&mut self, statement: usize)
         ensures { Extends (trace self.old) (trace self.new) (statement ∷ []) };
 }
@@ -22,10 +24,10 @@ impl Tracer for Untraced {
     fn step(&mut self, _statement: usize) {}
 }
 
-// How many steps an instant can have, in any routine: 4 for each of 256 statements.
-const MOST_STEPS: usize = 1024;
+/// How many steps an instant can have, in any routine: 4 for each statement.
+pub const MOST_STEPS: usize = 4 * MOST_STATEMENTS;
 
-// Keeps the statements of one reaction, for which it always has room; it allocates nothing.
+/// Keeps the statements of one reaction, for which it always has room. It allocates nothing.
 #[derive(Debug, Drop)]
 pub struct StepRow {
     steps: ArrayVec<usize, MOST_STEPS>,
@@ -33,9 +35,9 @@ pub struct StepRow {
 }
 
 impl StepRow {
-    // A row that was told of none.
+    /// A row that was told of none.
     pub fn new() -> StepRow
-        ensures { row_trace result ≡ record { steps = []; lost = false; room = 1024 } }
+        ensures { row_trace result ≡ record { steps = []; lost = false; room = MOST_STEPS } }
     {
         StepRow {
             steps: ArrayVec::new(),
@@ -43,7 +45,7 @@ impl StepRow {
         }
     }
 
-    // The statements that it was told of, the latest last.
+    /// The statements that it was told of, the latest last.
     pub fn steps(&self) -> &[usize]
         ensures { result.now ≡ (row_trace self.now).steps }
     {

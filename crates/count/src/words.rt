@@ -5,11 +5,11 @@ ghost use Rattle.count.specs.Calls.{bit, IsWordOf};
 ghost use Rattle.count.specs.Machine.{kind_effect};
 
 use routine::Kind;
-use signals::Board;
+use signals::{Board, SIGNALS};
 
 // Is bit s of the word set?
 pub(crate) fn has_bit(word: u64, s: u8) -> bool
-    requires { s < 64 }
+    requires { s < SIGNALS }
     ensures { result ≡ bit word s }
 {
     (word >> s) & 1 == 1
@@ -17,7 +17,7 @@ pub(crate) fn has_bit(word: u64, s: u8) -> bool
 
 // The word of the numbers below n of which `has` says yes.
 pub(crate) fn word_of<F: Fn(usize) -> bool>(n: usize, has: F) -> u64
-    requires few { n ≤ 64 }
+    requires few { n ≤ SIGNALS }
     requires asked { F.IsAlwaysCallable has }
     ensures { IsWordOf (F.post has) n result }
 {
@@ -28,11 +28,11 @@ pub(crate) fn word_of<F: Fn(usize) -> bool>(n: usize, has: F) -> u64
 
 // How many bits there are up to the highest that is set.
 pub(crate) fn width(word: u64) -> u8
-    ensures short { result ≤ 64 }
+    ensures short { result ≤ SIGNALS }
     ensures within { word < 2 ^ result }
     ensures highest { 2 ^ result ≤ 2 * word + 1 }
 {
-    (64 - word.leading_zeros()) as u8
+    (u64::BITS - word.leading_zeros()) as u8
 }
 
 // Leaves exactly the signals of the word present.
@@ -60,7 +60,7 @@ pub(crate) fn take_effect<B: Board>(board: &mut B, kind: Kind)
 }
 
 // The present signals of a board.
-pub(crate) fn snapshot<B: Board>(board: &B) -> [bool; 64]
+pub(crate) fn snapshot<B: Board>(board: &B) -> [bool; SIGNALS]
     ensures { result ≡ B.present board.now }
 {
     std::array::from_fn(|s| board.ask(s as u8))

@@ -1,5 +1,5 @@
-pub mod Listed
-pub mod Each
-pub mod Times
-pub mod Growing
+pub mod CallByCall
+pub mod ItemByItem
+pub mod Occurrences
+pub mod EventByEvent
 pub mod Verdicts

@@ -1,4 +1,4 @@
--- what two relays tell, and when their instants are the same
+-- the transcripts of two relays, and when their instants are the same
 use Rattle.std.proofs.Common.{◌≡◌, ℕ, suc, ◌+◌, Bool, false, List, [], ◌∷◌, ◌++◌, length, take}
 use Rattle.std.proofs.Common.{drop, Some, refl, ap, ap₂, ◌∙◌, arith}
 use Rattle.std.specs.Prelude.{slice_get}
@@ -8,14 +8,14 @@ use Rattle.routine.specs.declared.kinds.SignalKind.{SignalKind}
 use Rattle.relay.specs.Asked.{Asked}
 use Rattle.relay.specs.Heard.{Ear, Observation, ObservedAlike}
 use Rattle.relay.specs.History.{Transition, takes_over}
-use Rattle.relay.specs.Promises.{taken, closed_instants}
+use Rattle.relay.specs.ClosedInstants.{taken, closed_instants}
 use Rattle.relay.specs.Relays.{Relays}
-use Rattle.relay.specs.declared.relays.Relayed.{Relayed}
-use Rattle.handover.specs.declared.tellings.Telling.{Telling}
-use Rattle.handover.specs.Telling.{Tells, IsTold}
-use Rattle.handover.specs.Texts.{instant_line}
+use Rattle.relay.specs.declared.two_boards.Relayed.{Relayed}
+use Rattle.handover.specs.declared.transcripts.Transcript.{Transcript}
+use Rattle.handover.specs.Transcript.{WritesRelay, IsTranscript}
+use Rattle.handover.specs.RelayTexts.{instant_line}
 use Rattle.handover.specs.Story.{relay_text, instants_text, before_of, handed_of, later_of}
-use Rattle.handover.specs.Story.{whole_of, told_relay, told_instants, SameWords}
+use Rattle.handover.specs.Story.{whole_of, text_of, instants_of, SameWords}
 
 -- lists of one length that agree wherever both have something
 same_lists : {X : Type 0} (xs ys : List X) → length xs ≡ length ys
@@ -31,9 +31,10 @@ module _ (gs : List SignalKind) (ks : List Kind) where
       (a a' b b' : Ear) (r : Relayed A B)
       (R : Relays first second gs ks cs ds a a' b b' r) (one : a'.lost ≡ false)
       (other : b'.lost ≡ false) where
-    pub told_of : taken (whole_of gs ks cs ds) ≡ false
+    -- what was heard in the relay, where nothing was lost
+    pub observation_of : taken (whole_of gs ks cs ds) ≡ false
         → Observation a a' b b' (before_of gs ks cs) (later_of gs ks cs ds)
-    told_of t = record {
+    observation_of t = record {
       first = one;
       second = other;
       before = R.before.heard one;
@@ -52,10 +53,11 @@ module _ (gs : List SignalKind) (ks : List Kind) where
           (R.hands_on.later.heard other
           ∙ ap (λ (e : Ear). e.heard ++ (takes_over ∷ later_of gs ks cs ds)) fresh')
 
-      pub told_is : (n : ℕ) → n ≡ length ks → (t : Telling)
-          → Tells n a'.heard r.handed (drop 1 b'.heard) t → IsTold gs ks cs ds t
-      unfolding told_relay told_instants
-      told_is n m t T =
+      -- what is written of what was heard is the transcript of the calls
+      pub is_transcript : (n : ℕ) → n ≡ length ks → (t : Transcript)
+          → WritesRelay n a'.heard r.handed (drop 1 b'.heard) t → IsTranscript gs ks cs ds t
+      unfolding text_of instants_of
+      is_transcript n m t T =
           record {
             text = T.text ∙ ap (λ (ps : List Transition).
                 relay_text ps r.handed (drop 1 b'.heard)) heard_before
@@ -67,15 +69,15 @@ module _ (gs : List SignalKind) (ks : List Kind) where
                 ∙ ap (λ k. instants_text k (whole_of gs ks cs ds)) m;
           }
 
-  -- the same words: the same instants
-  pub same_instants_told : (cs ds es fs : List Asked) (a a' b b' c c' d d' : Ear)
+  -- two relays with the same words: the same closed instants, so the same text of them
+  pub same_instants_of : (cs ds es fs : List Asked) (a a' b b' c c' d d' : Ear)
       → ObservedAlike (length ks) a a' b b' c c' d d'
       → Observation a a' b b' (before_of gs ks cs) (later_of gs ks cs ds)
       → Observation c c' d d' (before_of gs ks es) (later_of gs ks es fs)
       → SameWords gs ks cs ds es fs
-      → told_instants gs ks cs ds ≡ told_instants gs ks es fs
-  unfolding told_instants
-  same_instants_told cs ds es fs a a' b b' c c' d d' law T U S =
+      → instants_of gs ks cs ds ≡ instants_of gs ks es fs
+  unfolding instants_of
+  same_instants_of cs ds es fs a a' b b' c c' d d' law T U S =
       let same = law (before_of gs ks cs) (later_of gs ks cs ds) (before_of gs ks es)
       (later_of gs ks es fs) T U in
       ap (flat_map instant_line)

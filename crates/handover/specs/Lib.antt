@@ -1,4 +1,4 @@
-pub mod Calls
-pub mod Texts
+pub mod CallLists
+pub mod RelayTexts
 pub mod Story
-pub mod Telling
+pub mod Transcript

@@ -1,9 +1,9 @@
 #![tactic(auto)]
 
-mod calls;
+mod call_lists;
+mod relay_texts;
 mod story;
-mod tellings;
-mod texts;
+mod transcripts;
 
 use input::{no_arguments, read_input};
 use std::env;

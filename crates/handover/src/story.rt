@@ -4,19 +4,20 @@ ghost use Rattle.routine.specs.View.{table_kinds, table_signals, load_of};
 ghost use Rattle.input.specs.Input.{table_part, rest_part};
 ghost use Rattle.input.specs.Printed.{said};
 ghost use Rattle.relay.specs.Asked.{asked};
-ghost use Rattle.handover.specs.Story.{one_way, other_way, both_text, same_text, told_lists};
-ghost use Rattle.handover.specs.Story.{story_of, verdict, SameWords, SameWordsIn, SaysSame};
-ghost use Rattle.handover.specs.Story.{told_same};
-ghost use Rattle.handover.specs.Telling.{IsTold};
+ghost use Rattle.handover.specs.Story.{verdict, one_way, other_way, both_text, same_text};
+ghost use Rattle.handover.specs.Story.{lists_text, agreeing_text, story_of};
+ghost use Rattle.handover.specs.Story.{SameWords, SameWordsIn, SaysSame};
+ghost use Rattle.handover.specs.Transcript.{IsTranscript};
 
-use crate::calls::list;
-use crate::tellings::{Telling, tell_kept};
+use crate::call_lists::list;
+use crate::transcripts::{Transcript, transcribe_kept};
 use input::{Printed, cut};
 use relay::{Keeper, Plan, relay_twice};
 use routine::{Refusal, Routine, load};
 use signals::{BitBoard, Board, StampBoard};
 use std::alloc::{AllocError, Global};
 
+// Are the lines of both relays' closed instants the same?
 #[tactic(auto, unfolding(crate::specs::Story::verdict))]
 fn write_verdict(out: &mut String, same: bool) -> Result<(), AllocError>
     ensures { OnOk result (string_bytes out.new ≡ string_bytes out.old ++ verdict same) }
@@ -28,28 +29,31 @@ fn write_verdict(out: &mut String, same: bool) -> Result<(), AllocError>
     }
 }
 
+// The first relay, under its title.
 #[tactic(auto, unfolding(crate::specs::Story::one_way))]
-fn write_one_way(out: &mut String, telling: &Telling) -> Result<(), AllocError>
+fn write_one_way(out: &mut String, transcript: &Transcript) -> Result<(), AllocError>
     ensures { OnOk result (string_bytes out.new
-        ≡ string_bytes out.old ++ one_way (string_bytes telling.now.text)) }
+        ≡ string_bytes out.old ++ one_way (string_bytes transcript.now.text)) }
 {
     writeln!(out, "from a bit board to a stamp board")?;
-    write!(out, "{}", telling.text)
+    write!(out, "{}", transcript.text)
 }
 
+// The second relay, under its title.
 #[tactic(auto, unfolding(crate::specs::Story::other_way))]
-fn write_other_way(out: &mut String, telling: &Telling) -> Result<(), AllocError>
+fn write_other_way(out: &mut String, transcript: &Transcript) -> Result<(), AllocError>
     ensures { OnOk result (string_bytes out.new
-        ≡ string_bytes out.old ++ other_way (string_bytes telling.now.text)) }
+        ≡ string_bytes out.old ++ other_way (string_bytes transcript.now.text)) }
 {
     writeln!(out, "from a stamp board to a bit board")?;
-    write!(out, "{}", telling.text)
+    write!(out, "{}", transcript.text)
 }
 
-fn write_both(out: &mut String, first: &Telling, second: &Telling) -> Result<(), AllocError>
+// Both relays, and the verdict.
+fn write_both(out: &mut String, first: &Transcript, second: &Transcript) -> Result<(), AllocError>
     ensures { OnOk result (string_bytes out.new
-        ≡ string_bytes out.old ++ both_text (string_bytes first.now.text)
-        (string_bytes second.now.text)
+        ≡ string_bytes out.old
+        ++ both_text (string_bytes first.now.text) (string_bytes second.now.text)
         (same_text (string_bytes first.now.instants) (string_bytes second.now.instants))) }
 {
     write_one_way(out, first)?;
@@ -57,28 +61,28 @@ fn write_both(out: &mut String, first: &Telling, second: &Telling) -> Result<(),
     write_verdict(out, first.instants == second.instants)
 }
 
-// What two relays of a routine tell.
+// Two relays of a routine in writing.
 #[derive(Debug, Drop)]
-struct Tellings {
-    first: Telling,
-    second: Telling,
+struct Transcripts {
+    first: Transcript,
+    second: Transcript,
 }
 
-// Two relays of the routine, told.
-fn tell_twice<A: Board + Drop, B: Board + Drop, C: Board + Drop, D: Board + Drop>(
+// Makes two relays of the routine, by their plans, and writes both down.
+fn transcribe_twice<A: Board + Drop, B: Board + Drop, C: Board + Drop, D: Board + Drop>(
     heap: Global,
     routine: Routine,
     plan: Plan<'_, A, B>,
     again: Plan<'_, C, D>,
-) -> Result<Tellings, AllocError>
-    ensures first { IfOk result
-        (λ t. IsTold (table_signals routine.table) (table_kinds routine.table)
+) -> Result<Transcripts, AllocError>
+    ensures first { IfOk result (λ t. IsTranscript
+        (table_signals routine.table) (table_kinds routine.table)
         (map asked plan.entry.before.now) (map asked plan.entry.later.now) t.first) }
-    ensures second { IfOk result
-        (λ t. IsTold (table_signals routine.table) (table_kinds routine.table)
+    ensures second { IfOk result (λ t. IsTranscript
+        (table_signals routine.table) (table_kinds routine.table)
         (map asked again.entry.before.now) (map asked again.entry.later.now) t.second) }
-    ensures same { IfOk result
-        (λ t. SameWords (table_signals routine.table) (table_kinds routine.table)
+    ensures same { IfOk result (λ t. SameWords
+        (table_signals routine.table) (table_kinds routine.table)
         (map asked plan.entry.before.now) (map asked plan.entry.later.now)
         (map asked again.entry.before.now) (map asked again.entry.later.now)
         → string_bytes t.first.instants ≡ string_bytes t.second.instants) }
@@ -89,26 +93,26 @@ fn tell_twice<A: Board + Drop, B: Board + Drop, C: Board + Drop, D: Board + Drop
     let mut m = Keeper::new(heap);
     let mut n = Keeper::new(heap);
     let (relayed, once_more, _) = relay_twice(routine, plan, again, &mut k, &mut l, &mut m, &mut n);
-    let first = tell_kept(heap, statements, k, &relayed.handed, l)?;
-    let second = tell_kept(heap, statements, m, &once_more.handed, n)?;
-    Ok(Tellings { first, second })
+    let first = transcribe_kept(heap, statements, k, &relayed.handed, l)?;
+    let second = transcribe_kept(heap, statements, m, &once_more.handed, n)?;
+    Ok(Transcripts { first, second })
 }
 
-// Both relays of the input, and their verdict.
-#[tactic(auto, unfolding(crate::specs::Story::told_lists))]
-fn tell_both(
+// Both relays by the four lists of the input, and the verdict.
+#[tactic(auto, unfolding(crate::specs::Story::lists_text))]
+fn write_relays(
     heap: Global,
     out: &mut String,
     routine: Routine,
     bytes: &[u8],
 ) -> Result<(), AllocError>
-    ensures tells { OnOk result
-        (string_bytes out.new ≡ string_bytes out.old
-        ++ told_lists (table_signals routine.table) (table_kinds routine.table) bytes.now) }
+    ensures text { OnOk result (string_bytes out.new
+        ≡ string_bytes out.old
+        ++ lists_text (table_signals routine.table) (table_kinds routine.table) bytes.now) }
     ensures same { OnOk result
         (SameWordsIn (table_signals routine.table) (table_kinds routine.table) bytes.now
         → string_bytes out.new ≡ string_bytes out.old
-        ++ told_same (table_signals routine.table) (table_kinds routine.table) bytes.now) }
+        ++ agreeing_text (table_signals routine.table) (table_kinds routine.table) bytes.now) }
 {
     let (before, rest) = list(heap, bytes)?;
     let (later, rest) = list(heap, rest)?;
@@ -126,13 +130,14 @@ fn tell_both(
         before: &others,
         later: &last,
     };
-    let tellings = tell_twice(heap, routine, plan, again)?;
-    write_both(out, &tellings.first, &tellings.second)?;
+    let transcripts = transcribe_twice(heap, routine, plan, again)?;
+    write_both(out, &transcripts.first, &transcripts.second)?;
     Ok(())
 }
 
-// What there is to print of the input's bytes. A table that is no routine is refused whatever
-// memory there is.
+/// What there is to print of the input's bytes: the refusal of the table, or two relays of its
+/// routine and the verdict whether their closed instants are the same. A table that is no routine
+/// is refused whatever memory there is.
 pub fn story(heap: Global, bytes: &[u8]) -> Result<Printed, AllocError>
     ensures says { SaysOrMemory (story_of bytes.now) said result }
     ensures same { IfOk result (SaysSame (load_of (table_part bytes.now)) (rest_part bytes.now)) }
@@ -145,6 +150,6 @@ pub fn story(heap: Global, bytes: &[u8]) -> Result<Printed, AllocError>
         Err(refusal) => return Ok(Printed::Refused { refusal }),
     };
     let mut text = String::new(heap);
-    tell_both(heap, &mut text, routine, lists)?;
+    write_relays(heap, &mut text, routine, lists)?;
     Ok(Printed::Lines { text })
 }

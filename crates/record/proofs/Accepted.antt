@@ -13,6 +13,7 @@ use Rattle.rules.specs.Legal.{keeps}
 use Rattle.record.specs.declared.phases.Phase.{Phase}
 use Rattle.record.specs.declared.heads.Head.{Head}
 use Rattle.record.specs.declared.heads.HeadFault.{HeadFault}
+use Rattle.record.specs.declared.layout.TheConstants.{HEAD_START, MARKS_START, RECORD_BYTES}
 use Rattle.record.specs.Phases.{is_open, is_over}
 use Rattle.record.specs.Record.{contents}
 use Rattle.record.proofs.Fields.{at-marks_read}
@@ -32,19 +33,19 @@ unless : (x y : Bool) → (x && not y) ≡ false → x ≡ true → y ≡ true
 unless true y e h = not-false y e
 unless false y e h = absurd (true≢false (sym h))
 
-fixed_right : (n : ℕ) (bytes : List ℕ) → is_fixed_right n bytes ≡ true → (i : ℕ) → i < 279
+fixed_right : (n : ℕ) (bytes : List ℕ) → is_fixed_right n bytes ≡ true → (i : ℕ) → i < RECORD_BYTES
     → is_fixed n i ≡ true → get_or bytes i 0 ≡ get_or (contents n) i 0
 unfolding is_fixed_right
 fixed_right n bytes h i l f =
     eqb-true (get_or bytes i 0) (get_or (contents n) i 0)
     (unless (is_fixed n i) (slice_index bytes i == slice_index (contents n) i)
-    (none_passes (is_wrong n bytes) 279 (not-true _ h) i l) f)
+    (none_passes (is_wrong n bytes) RECORD_BYTES (not-true _ h) i l) f)
 
 formed : (n : ℕ) (bytes : List ℕ) → has_form n bytes ≡ true
-    → (length bytes ≡ 279) × (is_fixed_right n bytes ≡ true)
+    → (length bytes ≡ RECORD_BYTES) × (is_fixed_right n bytes ≡ true)
 unfolding has_form
-formed n bytes h = let p = and_parts (length bytes == 279) (is_fixed_right n bytes) h in
-    (eqb-true (length bytes) 279 p.0, p.1)
+formed n bytes h = let p = and_parts (length bytes == RECORD_BYTES) (is_fixed_right n bytes) h in
+    (eqb-true (length bytes) RECORD_BYTES p.0, p.1)
 
 -- from 3 on a byte is no phase, and from 4 on no mark
 no_phase : (b : ℕ) → 3 ≤ b → phase_in b ≡ None
@@ -76,11 +77,11 @@ of_phase None g h e = absurd (cc)
 of_phase (Some p) g h e = e
 
 head_taken : (g : ℕ) (bytes : List ℕ) → head_fault g bytes ≡ None
-    → (get_or bytes 8 0 < 3) × (fault_by (head_in bytes).phase g (head_in bytes) ≡ None)
+    → (get_or bytes HEAD_START 0 < 3) × (fault_by (head_in bytes).phase g (head_in bytes) ≡ None)
 unfolding head_fault head_in
 head_taken g bytes h = (
-  is_phase (slice_index bytes 8) g (head_in bytes) h,
-  of_phase (phase_in (slice_index bytes 8)) g (head_in bytes) h,
+  is_phase (slice_index bytes HEAD_START) g (head_in bytes) h,
+  of_phase (phase_in (slice_index bytes HEAD_START)) g (head_in bytes) h,
 )
 
 marks_taken : (ks : List Kind) (bytes : List ℕ) → marks_fault ks bytes ≡ None → (i : ℕ)
@@ -96,16 +97,20 @@ module _ (gs : List SignalKind) (ks : List Kind) (bytes : List ℕ)
   three = parts_taken (has_form (length ks) bytes) (head_fault (length gs) bytes)
       (marks_fault ks bytes) ok
 
-  pub long : length bytes ≡ 279
+  -- they are as many as a record has
+  pub long : length bytes ≡ RECORD_BYTES
   long = (formed (length ks) bytes three.0).0
 
-  pub fixed : (i : ℕ) → i < 279 → is_fixed (length ks) i ≡ true
+  -- where they have no choice they are right
+  pub fixed : (i : ℕ) → i < RECORD_BYTES → is_fixed (length ks) i ≡ true
       → get_or bytes i 0 ≡ get_or (contents (length ks)) i 0
   fixed = fixed_right (length ks) bytes (formed (length ks) bytes three.0).1
 
-  pub some_phase : get_or bytes 8 0 < 3
+  -- the first byte of the head is a phase
+  pub some_phase : get_or bytes HEAD_START 0 < 3
   some_phase = (head_taken (length gs) bytes three.1).0
 
+  -- no field of the head is bad
   pub faultless : fault_by (head_in bytes).phase (length gs) (head_in bytes) ≡ None
   faultless = (head_taken (length gs) bytes three.1).1
 
@@ -121,12 +126,15 @@ module _ (gs : List SignalKind) (ks : List Kind) (bytes : List ℕ)
       || ((i == 0) && (is_over phase && not (over (tree_at ks 0) ms)))) ≡ false)
   unbroken i l = or_parts _ _ (marks_taken ks bytes three.2 i l)
 
-  pub some_mark : (i : ℕ) → i < length ks → get_or bytes (23 + i) 0 < 4
-  some_mark i l = is_mark (slice_index bytes (23 + i))
+  -- each statement has a mark
+  pub some_mark : (i : ℕ) → i < length ks → get_or bytes (MARKS_START + i) 0 < 4
+  some_mark i l = is_mark (slice_index bytes (MARKS_START + i))
       (ap is_some (sym (at-marks_read (length ks) bytes i l)) ∙ not-false _ (unbroken i l).0)
 
+  -- each statement keeps its rule
   pub each_keeps : (i : ℕ) → i < length ks → keeps (is_open phase) ks ms i ≡ true
   each_keeps i l = not-false _ (or_parts _ _ (unbroken i l).1).0
 
+  -- at the end statement 0 is over
   pub at_end : 0 < length ks → is_over phase ≡ true → over (tree_at ks 0) ms ≡ true
   at_end z = unless (is_over phase) (over (tree_at ks 0) ms) (or_parts _ _ (unbroken 0 z).1).1

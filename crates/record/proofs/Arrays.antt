@@ -21,5 +21,6 @@ module _ {F X : Type 0} (g : Mut F (ℕ × Unit {0}) X) (f : F) (h : ℕ → X)
             (omega arith) (omega arith)
       ]
 
+  -- the array is the list of those answers
   pub made : (n : ℕ) → IsFromFnResult g f ys n → ys ≡ map h (range_with_len 0 n)
   made n r = fill_by_all h ys n d r.long (λ k l. each_made n 0 k r.each (omega arith) (omega arith))

@@ -6,6 +6,6 @@ pub mod Words
 pub mod Places
 pub mod Fields
 pub mod Accepted
-pub mod Kept
+pub mod SameBytes
 pub mod Restored
 pub mod Taken

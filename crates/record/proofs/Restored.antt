@@ -1,4 +1,4 @@
--- the record of a sound state is accepted, and says that state
+-- what is written of a sound state, read again
 use Rattle.std.proofs.Common.{◌≡◌, ℕ, ◌+◌, ◌-◌, ◌^◌, ◌<◌, ◌≤◌, Bool, true, false, not, ◌&&◌, cond}
 use Rattle.std.proofs.Common.{List, length, map, take, drop, None, Some, Option, is_some, get_or}
 use Rattle.std.proofs.Common.{refl, sym, ap, ap₂, ◌∙◌, ⊎_elim, nat_lt, nat_le, ◌==◌, arith}
@@ -11,9 +11,11 @@ use Rattle.std.proofs.lemmas.Nat.{from_le_bytes-to_le_bytes_2, from_le_bytes-to_
 use Rattle.std.proofs.lemmas.Nat.{from_le_bytes-to_le_bytes_8}
 use Rattle.routine.specs.declared.kinds.Kind.{Kind}
 use Rattle.routine.specs.declared.kinds.SignalKind.{SignalKind}
+use Rattle.routine.specs.declared.tables.TheConstants.{MOST_SIGNALS, MOST_STATEMENTS}
 use Rattle.routine.specs.Search.{lowest}
 use Rattle.routine.specs.Tree.{tree_at}
 use Rattle.routine.proofs.Searches.{lowest_none, list_any-none_passes}
+use Rattle.signals.specs.declared.board.TheConstants.{SIGNALS}
 use Rattle.signals.specs.Sets.{empty, word_set}
 use Rattle.signals.proofs.WordSets.{word_set-zero}
 use Rattle.rules.specs.Rules.{Mark, Idle, Signals, at, over}
@@ -24,6 +26,9 @@ use Rattle.record.specs.declared.phases.Phase.TheVariants.{Resting, Open, Over}
 use Rattle.record.specs.declared.heads.Head.{Head}
 use Rattle.record.specs.declared.heads.HeadFault.{HeadFault}
 use Rattle.record.specs.declared.heads.HeadFault.TheVariants.{NoNumber, StraySignals}
+use Rattle.record.specs.declared.heads.TheConstants.{MOST_INSTANTS}
+use Rattle.record.specs.declared.layout.TheConstants.{HEAD_START, HEAD_BYTES, MARKS_START}
+use Rattle.record.specs.declared.layout.TheConstants.{RECORD_BYTES}
 use Rattle.record.specs.Phases.{is_open, is_over}
 use Rattle.record.specs.State.{State}
 use Rattle.record.specs.Sound.{Within, Sound}
@@ -40,17 +45,19 @@ use Rattle.record.proofs.Places.{byte_written}
 use Rattle.record.proofs.Fields.{phase_read, mark_read, length-marks_in, at-marks_read, at-marks_in}
 
 -- what is read from a record that was written
-module _ (n : ℕ) (h : Head) (ms : List Mark) (m : length ms ≡ n) (few : n ≤ 256) where
-  in_front : (i : ℕ) → i < 8 → get_or (written n h ms) i 0 ≡ get_or (contents n) i 0
+module _ (n : ℕ) (h : Head) (ms : List Mark) (m : length ms ≡ n) (few : n ≤ MOST_STATEMENTS) where
+  in_front : (i : ℕ) → i < HEAD_START → get_or (written n h ms) i 0 ≡ get_or (contents n) i 0
   in_front i l = byte_written n h ms m few i (omega arith)
       ∙ in_contents (contents n) (head_bytes h) ms i l
 
-  of_mark : (i : ℕ) → 23 ≤ i → i < 279 → get_or (written n h ms) i 0 ≡ mark_byte (at ms (i - 23))
+  of_mark : (i : ℕ) → MARKS_START ≤ i → i < RECORD_BYTES
+      → get_or (written n h ms) i 0 ≡ mark_byte (at ms (i - MARKS_START))
   of_mark i l b = byte_written n h ms m few i b ∙ in_marks (contents n) (head_bytes h) ms i l
 
-  behind : (i : ℕ) → 23 + n ≤ i → i < 279 → get_or (written n h ms) i 0 ≡ get_or (contents n) i 0
+  behind : (i : ℕ) → MARKS_START + n ≤ i → i < RECORD_BYTES
+      → get_or (written n h ms) i 0 ≡ get_or (contents n) i 0
   behind i l b =
-      of_mark i (omega arith) b ∙ ap mark_byte (get_or_past ms (i - 23) Idle (omega arith))
+      of_mark i (omega arith) b ∙ ap mark_byte (get_or_past ms (i - MARKS_START) Idle (omega arith))
       ∙ sym (get_or_past (contents n) i 0 (omega arith))
 
   right_there : (i : ℕ) → get_or (written n h ms) i 0 ≡ get_or (contents n) i 0
@@ -58,37 +65,40 @@ module _ (n : ℕ) (h : Head) (ms : List Mark) (m : length ms ≡ n) (few : n �
   right_there i e = and_right (is_fixed n i) _
       (not_from_true _ (eq-eqb (get_or (written n h ms) i 0) (get_or (contents n) i 0) e))
 
-  nothing_wrong : (i : ℕ) → i < 279 → is_wrong n (written n h ms) i ≡ false
+  nothing_wrong : (i : ℕ) → i < RECORD_BYTES → is_wrong n (written n h ms) i ≡ false
   nothing_wrong i l =
       ⊎_elim
       (λ a. right_there i (in_front i a))
-      (λ (a : 8 ≤ i). ⊎_elim
-      (λ (b : i < 23 + n). and_left (is_fixed n i) _
-      (or_from (nat_lt i 8) (nat_le (23 + n) i) (le-ltb i 8 a) (lt-leb (23 + n) i b)))
+      (λ (a : HEAD_START ≤ i). ⊎_elim
+      (λ (b : i < MARKS_START + n). and_left (is_fixed n i) _
+      (or_from (nat_lt i HEAD_START) (nat_le (MARKS_START + n) i) (le-ltb i HEAD_START a)
+      (lt-leb (MARKS_START + n) i b)))
       (λ b. right_there i (behind i b l))
-      (cases_lt i (23 + n)))
-      (cases_lt i 8)
+      (cases_lt i (MARKS_START + n)))
+      (cases_lt i HEAD_START)
 
   fixed_written : is_fixed_right n (written n h ms) ≡ true
   unfolding is_fixed_right
-  fixed_written = ap not (list_any-none_passes (is_wrong n (written n h ms)) 279 nothing_wrong)
+  fixed_written =
+      ap not (list_any-none_passes (is_wrong n (written n h ms)) RECORD_BYTES nothing_wrong)
 
   form_written : has_form n (written n h ms) ≡ true
   form_written = well_formed n (written n h ms) (length_written n h ms m few) fixed_written
 
-  head_written : part (written n h ms) 15 8 ≡ head_bytes h
+  head_written : part (written n h ms) HEAD_BYTES HEAD_START ≡ head_bytes h
   head_written =
-      part_is (written n h ms) (head_bytes h) 15 8 refl
-      (λ k l. let j : 8 + k - 8 ≡ k = omega arith in
-      byte_written n h ms m few (8 + k) (omega arith)
-      ∙ in_head (contents n) (head_bytes h) ms (8 + k) (omega arith) (omega arith)
+      part_is (written n h ms) (head_bytes h) HEAD_BYTES HEAD_START refl
+      (λ k l. let j : HEAD_START + k - HEAD_START ≡ k = omega arith in
+      byte_written n h ms m few (HEAD_START + k) (omega arith)
+      ∙ in_head (contents n) (head_bytes h) ms (HEAD_START + k) (omega arith) (omega arith)
       ∙ ap (λ i. get_or (head_bytes h) i 0) j)
 
-  mark_written : (i : ℕ) → i < 256 → get_or (written n h ms) (23 + i) 0 ≡ mark_byte (at ms i)
-  mark_written i l = let j : 23 + i - 23 ≡ i = omega arith in
-      of_mark (23 + i) (omega arith) (omega arith) ∙ ap (λ k. mark_byte (at ms k)) j
+  mark_written : (i : ℕ) → i < MOST_STATEMENTS
+      → get_or (written n h ms) (MARKS_START + i) 0 ≡ mark_byte (at ms i)
+  mark_written i l = let j : MARKS_START + i - MARKS_START ≡ i = omega arith in
+      of_mark (MARKS_START + i) (omega arith) (omega arith) ∙ ap (λ k. mark_byte (at ms k)) j
 
-  phase_said : phase_in (get_or (written n h ms) 8 0) ≡ Some h.phase
+  phase_said : phase_in (get_or (written n h ms) HEAD_START 0) ≡ Some h.phase
   phase_said = ap (λ bs. phase_in (get_or bs 0 0)) head_written ∙ phase_read h.phase
 
   -- each statement has a mark
@@ -106,7 +116,7 @@ module _ (n : ℕ) (h : Head) (ms : List Mark) (m : length ms ≡ n) (few : n �
       ∙ ap (λ b. counted (mark_in b)) (mark_written i (omega arith))
       ∙ ap counted (mark_read (at ms i)))
 
-  head_read : h.closed < 4294967296 → h.steps < 65536 → h.present < 2 ^ 64
+  head_read : h.closed < 2 ^ 32 → h.steps < 2 ^ 16 → h.present < 2 ^ 64
       → head_in (written n h ms) ≡ h
   unfolding head_in
   head_read c s w =
@@ -128,19 +138,20 @@ steps_kept Open steps no_steps = refl
 steps_kept Over steps no_steps = sym (no_steps refl)
 
 set_kept : (p : Phase) (g : ℕ) (e : Signals) → (is_open p ≡ false → e ≡ empty) → Within g e
-    → length e ≡ 64 → word_set (word_written p g e) ≡ e
+    → length e ≡ SIGNALS → word_set (word_written p g e) ≡ e
 set_kept Resting g e no_signals h l = word_set-zero ∙ sym (no_signals refl)
 set_kept Open g e no_signals h l = set_again e g l h
 set_kept Over g e no_signals h l = word_set-zero ∙ sym (no_signals refl)
 
-pub word_fits : (p : Phase) (g : ℕ) (e : Signals) → g ≤ 64 → word_written p g e < 2 ^ 64
+-- the present word that is written fits 64 bits
+pub word_fits : (p : Phase) (g : ℕ) (e : Signals) → g ≤ MOST_SIGNALS → word_written p g e < 2 ^ 64
 word_fits Resting g e few = omega arith
 word_fits Open g e few = omega (arith, word_below (λ s. get_or e s false) g 0, pow_mono few)
 word_fits Over g e few = omega arith
 
 -- the head of such a state has no fault
 pub no_fault : (p : Phase) (g closed steps : ℕ) (e : Signals)
-    → (is_open p ≡ true → closed < 4294967295)
+    → (is_open p ≡ true → closed < MOST_INSTANTS)
     → fault_by p g (record {
       phase = p;
       closed = closed;
@@ -151,9 +162,9 @@ no_fault Resting g closed steps e room = refl
 no_fault Open g closed steps e room =
     let r = room refl in
     let w = word_from (λ s. get_or e s false) g 0 in
-    cond-false (closed == 4294967295) (Some NoNumber)
+    cond-false (closed == MOST_INSTANTS) (Some NoNumber)
     (cond (nat_lt w (2 ^ g)) None (Some StraySignals))
-    (ne_eqb closed 4294967295 (λ q. absurd (omega arith)))
+    (ne_eqb closed MOST_INSTANTS (λ q. absurd (omega arith)))
     ∙ cond-true (nat_lt w (2 ^ g)) None (Some StraySignals)
     (lt-ltb w (2 ^ g) (word_below (λ s. get_or e s false) g 0))
 no_fault Over g closed steps e room = refl
@@ -173,7 +184,7 @@ unbroken ks p ms i l k f =
 
 -- what is read then passes both tests
 head_passes : (g : ℕ) (bytes : List ℕ) (h : Head) → head_in bytes ≡ h
-    → phase_in (get_or bytes 8 0) ≡ Some h.phase → fault_by h.phase g h ≡ None
+    → phase_in (get_or bytes HEAD_START 0) ≡ Some h.phase → fault_by h.phase g h ≡ None
     → head_fault g bytes ≡ None
 unfolding head_fault
 head_passes g bytes h e p f = ap₂ (λ (o : Option Phase) (k : Head). fault_of o g k) p e ∙ f
@@ -212,7 +223,7 @@ state_read n bytes h ms e f =
 
 -- the record of a head without a fault, over legal marks
 module _ (gs : List SignalKind) (ks : List Kind) (h : Head) (ms : List Mark)
-    (most : length ks ≤ 256) (closed : h.closed < 4294967296) (steps : h.steps < 65536)
+    (most : length ks ≤ MOST_STATEMENTS) (closed : h.closed < 2 ^ 32) (steps : h.steps < 2 ^ 16)
     (word : h.present < 2 ^ 64) (fine : fault_by h.phase (length gs) h ≡ None)
     (legal : Legal (is_open h.phase) ks ms)
     (finished : is_over h.phase ≡ true → over (tree_at ks 0) ms ≡ true) where
@@ -227,6 +238,7 @@ module _ (gs : List SignalKind) (ks : List Kind) (h : Head) (ms : List Mark)
       (ap (λ ns. keeps (is_open h.phase) ks ns i) e ∙ legal.each i l)
       (λ o. ap (over (tree_at ks 0)) e ∙ finished o)
 
+  -- it is accepted
   pub is_taken : taking_refusal gs ks bs ≡ None
   is_taken =
       let e = head_read (length ks) h ms legal.many most closed steps word in
@@ -235,15 +247,15 @@ module _ (gs : List SignalKind) (ks : List Kind) (h : Head) (ms : List Mark)
       (head_passes (length gs) bs h e (phase_said (length ks) h ms legal.many most) fine)
       (marks_pass ks bs h e none_breaks)
 
-module _ (gs : List SignalKind) (ks : List Kind) (s : State) (most : length ks ≤ 256)
-    (few : length gs ≤ 64) (sound : Sound gs ks s) where
+module _ (gs : List SignalKind) (ks : List Kind) (s : State) (most : length ks ≤ MOST_STATEMENTS)
+    (few : length gs ≤ MOST_SIGNALS) (sound : Sound gs ks s) where
   abbrev h : Head
   h = head_of (length gs) s
 
   abbrev bytes : List ℕ
   bytes = record_of (length gs) (length ks) s
 
-  steps_small : h.steps < 65536
+  steps_small : h.steps < 2 ^ 16
   steps_small = let e = steps_kept s.phase s.steps sound.no_steps in let f = sound.steps_fit in
       omega arith
 
@@ -276,8 +288,9 @@ module _ (gs : List SignalKind) (ks : List Kind) (s : State) (most : length ks �
         present = q i;
       })
 
-pub restored : (gs : List SignalKind) (ks : List Kind) (s : State) → length ks ≤ 256
-    → length gs ≤ 64 → Sound gs ks s
+-- the record of a sound state is accepted, and says that state
+pub restored : (gs : List SignalKind) (ks : List Kind) (s : State) → length ks ≤ MOST_STATEMENTS
+    → length gs ≤ MOST_SIGNALS → Sound gs ks s
     → (taking_refusal gs ks (record_of (length gs) (length ks) s) ≡ None)
     × (state_in (length ks) (record_of (length gs) (length ks) s) ≡ s)
 restored gs ks s most few sound = (taken gs ks s most few sound, said gs ks s most few sound)

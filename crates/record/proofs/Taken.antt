@@ -10,6 +10,7 @@ use Rattle.signals.proofs.WordSets.{word_set-zero}
 use Rattle.record.specs.declared.phases.Phase.{Phase}
 use Rattle.record.specs.declared.phases.Phase.TheVariants.{Resting, Open, Over}
 use Rattle.record.specs.declared.heads.Head.{Head}
+use Rattle.record.specs.declared.heads.TheConstants.{MOST_INSTANTS}
 use Rattle.record.specs.Phases.{is_open}
 use Rattle.record.specs.Sound.{Sound}
 use Rattle.record.specs.Taking.{closed_in, steps_in, head_in, fault_by, taking_refusal, state_in}
@@ -29,16 +30,16 @@ present_below Open g h e = (open_bounds g h e).1
 present_below Over g h e = let z = still_zeros h e in omega (arith, z.1, pow_pos g)
 
 not_last : (p : Phase) (g : ℕ) (h : Head) → fault_by p g h ≡ None → is_open p ≡ true
-    → h.closed ≡ 4294967295 → ⊥
+    → h.closed ≡ MOST_INSTANTS → ⊥
 not_last Resting g h e o = absurd (cc)
 not_last Open g h e o = (open_bounds g h e).0
 not_last Over g h e o = absurd (cc)
 
 module _ (bytes : List ℕ) (small : (i : ℕ) → get_or bytes i 0 < 256) where
-  closed_small : closed_in bytes < 4294967296
+  closed_small : closed_in bytes < 2 ^ 32
   closed_small = omega (arith, small 9, small 10, small 11, small 12)
 
-  steps_small : steps_in bytes < 65536
+  steps_small : steps_in bytes < 2 ^ 16
   steps_small = omega (arith, small 13, small 14)
 
 -- (of at least one statement: with none, no byte says whether statement 0 is over at the end)

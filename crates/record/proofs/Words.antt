@@ -6,6 +6,8 @@ use Rattle.std.specs.Int.{bit_at}
 use Rattle.std.proofs.lemmas.Nat.Bits.{bit_at_lowest, bit_at-suc, bit_at-lt, bit_at_above}
 use Rattle.std.proofs.lemmas.Nat.Bits.{same_from_bits_below}
 use Rattle.std.proofs.lemmas.Bool.{cases_lt}
+use Rattle.routine.specs.declared.tables.TheConstants.{MOST_SIGNALS}
+use Rattle.signals.specs.declared.board.TheConstants.{SIGNALS}
 use Rattle.signals.specs.Sets.{word_set}
 use Rattle.signals.specs.Sizes.{length-word_set}
 use Rattle.signals.proofs.Sets.{get_or-above}
@@ -18,6 +20,7 @@ digit : (b : Bool) → cond b 1 0 ≤ 1
 digit true = omega arith
 digit false = omega arith
 
+-- a word of n bits is below 2 ^ n
 pub word_below : (P : ℕ → Bool) (n i : ℕ) → word_from P n i < 2 ^ n
 word_below P zero i = omega arith
 word_below P (suc n) i = omega (arith, word_below P n (i + 1), digit (P i), pow-suc 2 n)
@@ -45,7 +48,7 @@ as_digit (suc zero) l = refl
 as_digit (suc (suc d)) l = absurd (omega arith)
 
 -- a word below 2 ^ g is the word of its own set
-pub word_again : (w g : ℕ) → g ≤ 64 → w < 2 ^ g
+pub word_again : (w g : ℕ) → g ≤ MOST_SIGNALS → w < 2 ^ g
     → word_from (λ s. get_or (word_set w) s false) g 0 ≡ w
 word_again w g few l =
     same_from_bits_below g (word_from (λ s. get_or (word_set w) s false) g 0) w
@@ -58,17 +61,17 @@ word_again w g few l =
 pub word_within : (w g : ℕ) → w < 2 ^ g → Within g (word_set w)
 word_within w g l s m =
     ⊎_elim
-    (λ (b : s < 64). get_or-word_set w s b ∙ ap (λ d. d == 1) (bit_at_above w g s l m))
-    (λ (b : 64 ≤ s). get_or-above (word_set w) s (length-word_set w) b)
-    (cases_lt s 64)
+    (λ (b : s < SIGNALS). get_or-word_set w s b ∙ ap (λ d. d == 1) (bit_at_above w g s l m))
+    (λ (b : SIGNALS ≤ s). get_or-above (word_set w) s (length-word_set w) b)
+    (cases_lt s SIGNALS)
 
 -- the set of the word of a set of signals below g is that set
-pub set_again : (e : Signals) (g : ℕ) → length e ≡ 64 → Within g e
+pub set_again : (e : Signals) (g : ℕ) → length e ≡ SIGNALS → Within g e
     → word_set (word_from (λ s. get_or e s false) g 0) ≡ e
 set_again e g long h =
     let w = word_from (λ s. get_or e s false) g 0 in
     ext_get_or false (word_set w) e (length-word_set w ∙ sym long)
-    (λ s l. let b : s < 64 = omega (arith, length-word_set w) in
+    (λ s l. let b : s < SIGNALS = omega (arith, length-word_set w) in
     get_or-word_set w s b
     ∙ ⊎_elim
     (λ (c : s < g). ap (λ d. d == 1) (bit_of (λ q. get_or e q false) g 0 s s c (omega arith))

@@ -4,4 +4,3 @@ pub mod Record
 pub mod Taking
 pub mod Answers
 pub mod Sound
-pub mod Trips

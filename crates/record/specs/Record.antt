@@ -1,12 +1,14 @@
--- the hand-over record: 279 bytes that say what a count is at
+-- the hand-over record: the bytes that say what a count is at
 use Rattle.std.specs.Prelude.{ℕ, ◌-◌, List, ◌∷◌, ◌++◌, map, replicate, slice_index_or, slice_index}
 use Rattle.std.specs.Prelude.{false, cond, nat_lt}
 use Rattle.std.specs.Int.{w16, w32, w64, to_le_bytes}
+use Rattle.routine.specs.declared.tables.TheConstants.{MOST_STATEMENTS}
 use Rattle.rules.specs.Rules.{Mark, Idle, Waiting, UnderWay, Done, Signals, at}
 use Rattle.rules.specs.Model.{word_from}
 use Rattle.record.specs.declared.phases.Phase.{Phase}
 use Rattle.record.specs.declared.phases.Phase.TheVariants.{Resting, Open, Over}
 use Rattle.record.specs.declared.heads.Head.{Head}
+use Rattle.record.specs.declared.layout.TheConstants.{HEAD_START, HEAD_BYTES, MARKS_START}
 use Rattle.record.specs.State.{State}
 
 abbrev pub phase_byte : Phase → ℕ
@@ -22,7 +24,8 @@ mark_byte Done = 3
 
 -- the contents: where the head lies and how long it is, where the marks lie and how many there are
 abbrev pub contents : ℕ → List ℕ
-contents n = to_le_bytes w16 8 ++ (to_le_bytes w16 15 ++ (to_le_bytes w16 23 ++ to_le_bytes w16 n))
+contents n = to_le_bytes w16 HEAD_START
+    ++ (to_le_bytes w16 HEAD_BYTES ++ (to_le_bytes w16 MARKS_START ++ to_le_bytes w16 n))
 
 -- in an open instant its steps, and the word of the present signals below g; else 0
 abbrev pub steps_written : Phase → ℕ → ℕ
@@ -50,7 +53,7 @@ head_of g s = record {
 
 -- n marks, and zeros up to the end
 abbrev pub mark_bytes : ℕ → List Mark → List ℕ
-mark_bytes n ms = map mark_byte ms ++ replicate (256 - n) 0
+mark_bytes n ms = map mark_byte ms ++ replicate (MOST_STATEMENTS - n) 0
 
 unfoldable pub written : ℕ → Head → List Mark → List ℕ
 written n h ms = contents n ++ (head_bytes h ++ mark_bytes n ms)
@@ -58,8 +61,9 @@ written n h ms = contents n ++ (head_bytes h ++ mark_bytes n ms)
 -- the same place by place, for those contents and that head: beyond the last mark as if idle ones
 -- followed
 abbrev pub byte_at : List ℕ → List ℕ → List Mark → ℕ → ℕ
-byte_at cs hs ms i = cond (nat_lt i 8) (slice_index cs i)
-    (cond (nat_lt i 23) (slice_index hs (i - 8)) (mark_byte (at ms (i - 23))))
+byte_at cs hs ms i = cond (nat_lt i HEAD_START) (slice_index cs i)
+    (cond (nat_lt i MARKS_START) (slice_index hs (i - HEAD_START))
+    (mark_byte (at ms (i - MARKS_START))))
 
 -- the record of a count with g signals and n statements
 abbrev pub record_of : ℕ → ℕ → State → List ℕ

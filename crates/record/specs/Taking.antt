@@ -8,6 +8,7 @@ use Rattle.routine.specs.declared.kinds.Kind.{Kind}
 use Rattle.routine.specs.declared.kinds.SignalKind.{SignalKind}
 use Rattle.routine.specs.declared.refusals.Refusal.{Refusal}
 use Rattle.routine.specs.declared.refusals.Refusal.TheVariants.{RecordForm, RecordHead, RecordMarks}
+use Rattle.routine.specs.declared.tables.TheConstants.{MOST_STATEMENTS}
 use Rattle.routine.specs.Search.{lowest}
 use Rattle.routine.specs.Tree.{tree_at}
 use Rattle.signals.specs.Sets.{word_set}
@@ -19,7 +20,10 @@ use Rattle.record.specs.declared.heads.Head.{Head}
 use Rattle.record.specs.declared.heads.HeadFault.{HeadFault}
 use Rattle.record.specs.declared.heads.HeadFault.TheVariants.{NoPhase, NoNumber, StraySteps}
 use Rattle.record.specs.declared.heads.HeadFault.TheVariants.{StraySignals}
-use Rattle.record.specs.declared.records.Saved.{Saved}
+use Rattle.record.specs.declared.heads.TheConstants.{MOST_INSTANTS, CLOSED_OFFSET, STEPS_OFFSET}
+use Rattle.record.specs.declared.heads.TheConstants.{PRESENT_OFFSET}
+use Rattle.record.specs.declared.layout.TheConstants.{HEAD_START, MARKS_START, RECORD_BYTES}
+use Rattle.record.specs.declared.reading.Saved.{Saved}
 use Rattle.record.specs.Phases.{is_open, is_over}
 use Rattle.record.specs.Answers.{answer}
 use Rattle.record.specs.State.{State}
@@ -29,19 +33,19 @@ use Rattle.record.specs.Record.{contents}
 abbrev pub part : List ℕ → ℕ → ℕ → List ℕ
 part bytes n p = map (slice_index bytes) (range_with_len p n)
 
--- FORM: 279 bytes, the contents for n statements, and zeros after n marks. At these places the
--- bytes have no choice
+-- FORM: as many bytes as a record has, the contents for n statements, and zeros after n marks. At
+-- these places the bytes have no choice
 abbrev pub is_fixed : ℕ → ℕ → Bool
-is_fixed n i = nat_lt i 8 || nat_le (23 + n) i
+is_fixed n i = nat_lt i HEAD_START || nat_le (MARKS_START + n) i
 
 abbrev pub is_wrong : ℕ → List ℕ → ℕ → Bool
 is_wrong n bytes i = is_fixed n i && not (slice_index bytes i == slice_index (contents n) i)
 
 unfoldable pub is_fixed_right : ℕ → List ℕ → Bool
-is_fixed_right n bytes = not (list_any (is_wrong n bytes) (range_with_len 0 279))
+is_fixed_right n bytes = not (list_any (is_wrong n bytes) (range_with_len 0 RECORD_BYTES))
 
 unfoldable pub has_form : ℕ → List ℕ → Bool
-has_form n bytes = (length bytes == 279) && is_fixed_right n bytes
+has_form n bytes = (length bytes == RECORD_BYTES) && is_fixed_right n bytes
 
 -- HEAD. A byte above 2 is no phase
 abbrev pub phase_in : ℕ → Option Phase
@@ -49,13 +53,13 @@ phase_in b = cond (b == 0) (Some Resting)
     (cond (b == 1) (Some Open) (cond (b == 2) (Some Over) None))
 
 abbrev pub closed_in : List ℕ → ℕ
-closed_in bytes = from_le_bytes w32 (part bytes 4 9)
+closed_in bytes = from_le_bytes w32 (part bytes 4 (HEAD_START + CLOSED_OFFSET))
 
 abbrev pub steps_in : List ℕ → ℕ
-steps_in bytes = from_le_bytes w16 (part bytes 2 13)
+steps_in bytes = from_le_bytes w16 (part bytes 2 (HEAD_START + STEPS_OFFSET))
 
 abbrev pub word_in : List ℕ → ℕ
-word_in bytes = from_le_bytes w64 (part bytes 8 15)
+word_in bytes = from_le_bytes w64 (part bytes 8 (HEAD_START + PRESENT_OFFSET))
 
 -- (what is no phase is refused; to have a head for all bytes, it stands for resting)
 abbrev pub phase_or_resting : Option Phase → Phase
@@ -65,7 +69,7 @@ phase_or_resting (Some phase) = phase
 unfoldable pub head_in : List ℕ → Head
 head_in bytes =
     record {
-      phase = phase_or_resting (phase_in (slice_index bytes 8));
+      phase = phase_or_resting (phase_in (slice_index bytes HEAD_START));
       closed = closed_in bytes;
       steps = steps_in bytes;
       present = word_in bytes;
@@ -78,7 +82,7 @@ still_fault h = cond (h.steps == 0) (cond (h.present == 0) None (Some StraySigna
 
 -- an open instant has a number, and no signal from g on is present
 abbrev pub open_fault : ℕ → Head → Option HeadFault
-open_fault g h = cond (h.closed == 4294967295) (Some NoNumber)
+open_fault g h = cond (h.closed == MOST_INSTANTS) (Some NoNumber)
     (cond (nat_lt h.present (2 ^ g)) None (Some StraySignals))
 
 abbrev pub fault_by : Phase → ℕ → Head → Option HeadFault
@@ -92,13 +96,13 @@ fault_of (Some phase) g h = fault_by phase g h
 
 -- what is wrong with the head's first bad field, and the offset in the head of that field
 unfoldable pub head_fault : ℕ → List ℕ → Option HeadFault
-head_fault g bytes = fault_of (phase_in (slice_index bytes 8)) g (head_in bytes)
+head_fault g bytes = fault_of (phase_in (slice_index bytes HEAD_START)) g (head_in bytes)
 
 abbrev pub offset_of : HeadFault → ℕ
 offset_of NoPhase = 0
-offset_of NoNumber = 1
-offset_of StraySteps = 5
-offset_of StraySignals = 7
+offset_of NoNumber = CLOSED_OFFSET
+offset_of StraySteps = STEPS_OFFSET
+offset_of StraySignals = PRESENT_OFFSET
 
 -- the head, or what is wrong with it
 abbrev pub head_read : ℕ → List ℕ → Result Head HeadFault
@@ -110,7 +114,7 @@ mark_in b = cond (b == 0) (Some Idle)
     (cond (b == 1) (Some Waiting) (cond (b == 2) (Some UnderWay) (cond (b == 3) (Some Done) None)))
 
 unfoldable pub marks_read : ℕ → List ℕ → List (Option Mark)
-marks_read n bytes = map (λ i. mark_in (slice_index bytes (23 + i))) (range_with_len 0 n)
+marks_read n bytes = map (λ i. mark_in (slice_index bytes (MARKS_START + i))) (range_with_len 0 n)
 
 -- to the rules of other statements, what is no mark is a live one, neither waiting nor done
 abbrev pub counted : Option Mark → Mark
@@ -145,7 +149,7 @@ taking_refusal gs ks bytes =
 
 -- what the bytes say, where none is bad
 abbrev pub saved_in : List ℕ → Saved
-saved_in bytes = record { head = head_in bytes; marks = marks_in 256 bytes }
+saved_in bytes = record { head = head_in bytes; marks = marks_in MOST_STATEMENTS bytes }
 
 abbrev pub state_in : ℕ → List ℕ → State
 state_in n bytes =

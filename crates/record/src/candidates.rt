@@ -1,4 +1,4 @@
-ghost use Rattle.std.specs.Prelude.{◌≡◌, ◌≤◌, Some, length, map, slice_index_or};
+ghost use Rattle.std.specs.Prelude.{◌≡◌, Some, length, map, slice_index_or};
 ghost use Rattle.routine.specs.Kinds.{shape_at};
 ghost use Rattle.routine.specs.Search.{lowest};
 ghost use Rattle.routine.specs.Tree.{tree_at};

@@ -2,18 +2,31 @@ ghost use Rattle.std.specs.Prelude.{◌≡◌, ◌≤◌};
 ghost use Rattle.record.specs.Record.{head_bytes};
 ghost use Rattle.record.specs.Taking.{fault_by, offset_of};
 
+use crate::layout::HEAD_BYTES;
 use crate::phases::Phase;
+use routine::MOST_SIGNALS;
 
 /// How many instants a count can close: the number of the last one.
 pub const MOST_INSTANTS: u32 = u32::MAX;
 
-// What a count is at, but for its marks: the head of its record.
+// Where the closed instants lie in the head. The phase lies before them.
+pub(crate) const CLOSED_OFFSET: usize = 1;
+
+// Where the steps lie in it.
+pub(crate) const STEPS_OFFSET: usize = 5;
+
+// Where the word of the present signals lies in it.
+pub(crate) const PRESENT_OFFSET: usize = 7;
+
+/// What a count is at, but for its marks: the head of its record.
 #[derive(Clone, Copy, Debug, PartialEq, Eq)]
 pub struct Head {
     pub phase: Phase,
+    /// How many instants are closed.
     pub closed: u32,
+    /// The steps of the open instant.
     pub steps: u16,
-    // Bit s of the word: signal s is present.
+    /// The present signals: bit s is set where signal s is present.
     pub present: u64,
 }
 
@@ -34,15 +47,15 @@ impl HeadFault {
     {
         match self {
             HeadFault::NoPhase => 0,
-            HeadFault::NoNumber => 1,
-            HeadFault::StraySteps => 5,
-            HeadFault::StraySignals => 7,
+            HeadFault::NoNumber => CLOSED_OFFSET,
+            HeadFault::StraySteps => STEPS_OFFSET,
+            HeadFault::StraySignals => PRESENT_OFFSET,
         }
     }
 }
 
 impl Head {
-    pub(crate) fn to_bytes(&self) -> [u8; 15]
+    pub(crate) fn to_bytes(&self) -> [u8; HEAD_BYTES]
         ensures { result ≡ head_bytes self.now }
     {
         let [c0, c1, c2, c3] = self.closed.to_le_bytes();
@@ -69,11 +82,11 @@ impl Head {
 
     // What is wrong with the first field that no head of a routine with so many signals has.
     pub(crate) fn fault(&self, signals: usize) -> Option<HeadFault>
-        requires { signals ≤ 64 }
+        requires { signals ≤ MOST_SIGNALS }
         ensures { result ≡ fault_by self.now.phase signals self.now }
     {
         match self.phase {
-            Phase::Open if self.closed == u32::MAX => Some(HeadFault::NoNumber),
+            Phase::Open if self.closed == MOST_INSTANTS => Some(HeadFault::NoNumber),
             Phase::Open => {
                 (u128::from(self.present) >= 1 << signals).then_some(HeadFault::StraySignals)
             }

@@ -5,15 +5,18 @@ ghost use Rattle.record.specs.Taking.{phase_in};
 
 use rules::Status;
 
-// Where a count stands: between instants, in an open instant, or at the routine's end.
+/// Where a count stands.
 #[derive(Clone, Copy, Debug, PartialEq, Eq)]
 pub enum Phase {
+    /// Between two instants, or before the first.
     Resting,
+    /// In an open instant.
     Open,
+    /// At the end of the routine: no instant follows.
     Over,
 }
 
-// Where a closed instant of that status leaves the count.
+/// Where a closed instant of that status leaves the count.
 impl From<Status> for Phase {
     ghost from_gives = { λ s p. p ≡ phase_of s };
 
@@ -25,7 +28,7 @@ impl From<Status> for Phase {
     }
 }
 
-// How a record writes it.
+/// How a record writes a phase.
 impl From<Phase> for u8 {
     ghost from_gives = { λ p b. b ≡ phase_byte p };
 

@@ -10,7 +10,10 @@ ghost use Rattle.record.specs.Taking.{fault_by};
 use crate::heads::Head;
 use routine::Routine;
 
-// Where a count can stand: a head that has no fault, and a routine whose marks are legal under it.
+/// Where a count can stand: a head and a routine that go together.
+///
+/// The head has no bad field, the marks of the routine's statements are legal in its phase, and in
+/// phase over statement 0 is over.
 #[derive(Clone, Copy, Debug)]
 pub struct Standing<'a> {
     pub head: Head,

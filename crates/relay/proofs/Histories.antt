@@ -1,5 +1,4 @@
--- every history is as the model says, and two with the same first words have the same first
--- instants
+-- a trace of a new count is as the model says, and its first words decide its first instants
 use Rattle.std.proofs.Common.{◌≡◌, ◌≢◌, ℕ, zero, suc, ◌+◌, ◌*◌, ◌<◌, ◌≤◌, true, false, List, []}
 use Rattle.std.proofs.Common.{◌∷◌, ◌++◌, length, take, Some, sym, refl, ap, ◌∙◌, ap₂, add-one}
 use Rattle.std.proofs.Common.{arith}
@@ -18,9 +17,9 @@ use Rattle.record.specs.State.{State}
 use Rattle.count.specs.Calls.{new_state}
 use Rattle.relay.specs.History.{Transition, begins, steps, closes, reacts, takes_over, refuses}
 use Rattle.relay.specs.History.{transition_of, after_call, trace, after_calls}
-use Rattle.relay.specs.Promises.{taken, accepted, ClosedInstant, closed_instants, AsModel}
-use Rattle.relay.specs.Promises.{SameInstants}
-use Rattle.relay.proofs.Instants.{few_steps, Stands, between, inside, Follows, by_call}
+use Rattle.relay.specs.ClosedInstants.{taken, accepted, ClosedInstant, closed_instants, AsModel}
+use Rattle.relay.specs.ClosedInstants.{SameInstants}
+use Rattle.relay.proofs.OneCall.{few_steps, Stands, between, inside, Follows, by_call}
 
 untaken : (p : Transition) (ps : List Transition) → taken (p ∷ ps) ≡ false
     → (p ≢ takes_over) × (taken ps ≡ false)
@@ -31,7 +30,7 @@ untaken (reacts w c ms v) ps t = (λ h. (cc), t)
 untaken takes_over ps t = absurd (never true refl t)
 untaken (refuses r) ps t = (λ h. (cc), t)
 
--- one list of calls after another
+-- the trace of two lists of calls, one after the other
 pub trace_append : (gs : List SignalKind) (ks : List Kind) (cs ds : List Asked) (s : State)
     → trace gs ks s (cs ++ ds) ≡ trace gs ks s cs ++ trace gs ks (after_calls gs ks s cs) ds
 unfolding trace after_calls
@@ -40,6 +39,7 @@ trace_append gs ks (c ∷ cs) ds s =
     ap (λ (ps : List Transition). transition_of gs ks s c ∷ ps)
     (trace_append gs ks cs ds (after_call gs ks s c))
 
+-- the state that both lists leave
 pub after_append : (gs : List SignalKind) (ks : List Kind) (cs ds : List Asked) (s : State)
     → after_calls gs ks s (cs ++ ds) ≡ after_calls gs ks (after_calls gs ks s cs) ds
 unfolding after_calls
@@ -74,7 +74,7 @@ module _ (gs : List SignalKind) (ks : List Kind) where
       ∙ first_words (first_marks ks) (accepted ps) k
       ∙ ap (λ (n : ℕ). slice_get (model gs ks (take n (accepted ps))) k) (sym (add-one k))
 
-  -- so two lists of which each is as the model says agree
+  -- so two traces of which each is as the model says agree
   pub same_instants : (ps qs : List Transition) → AsModel gs ks ps → AsModel gs ks qs
       → SameInstants (length ks) ps qs
   same_instants ps qs M N k same a b g h =
@@ -99,13 +99,13 @@ module _ (gs : List SignalKind) (ks : List Kind) (C : Checked gs ks) (few : leng
     numbers = λ k e h. absurd (none-some e h);
     counted = λ k e h. absurd (none-some e h);
     closed_steps = λ k e h. absurd (none-some e h);
-    open_steps = so_far S;
+    open_steps = few_so_far S;
   }
     where
-      so_far : {ms : List Mark} {ws : List ℕ} → Stands gs ks C few s v ms ws
+      few_so_far : {ms : List Mark} {ws : List ℕ} → Stands gs ks C few s v ms ws
           → length v ≤ 4 * length ks
-      so_far (between o L e) = let l = ap length e in omega arith
-      so_far (inside {ms = ms} {word = word} o L r e) = few_steps gs ks C few ms word L r
+      few_so_far (between o L e) = let l = ap length e in omega arith
+      few_so_far (inside {ms = ms} {word = word} o L r e) = few_steps gs ks C few ms word L r
 
   follows : (cs : List Asked) (s : State) (v : List ℕ) {ms : List Mark} {ws : List ℕ}
       → Stands gs ks C few s v ms ws → taken (trace gs ks s cs) ≡ false
@@ -118,7 +118,7 @@ module _ (gs : List SignalKind) (ks : List Kind) (C : Checked gs ks) (few : leng
       let l = by_call gs ks C few s c S u.0 in
       l.before (trace gs ks b cs) (follows cs b l.stepped_then l.stands u.1)
 
-  -- what calls on a new count come to is as the model says
+  -- the trace of calls on a new count is as the model says
   pub as_model : (cs : List Asked) → taken (trace gs ks (new_state ks) cs) ≡ false
       → AsModel gs ks (trace gs ks (new_state ks) cs)
   as_model cs t =

@@ -1,9 +1,9 @@
-pub mod Accepted
-pub mod Instants
+pub mod AcceptedCalls
+pub mod OneCall
 pub mod Histories
 pub mod Reacting
 pub mod Telling
 pub mod Reached
 pub mod Resumed
-pub mod Passing
-pub mod Alike
+pub mod HandedOn
+pub mod Observed

@@ -1,4 +1,4 @@
--- every state to which calls lead is one of a count
+-- every state to which calls on a new count lead is sound
 use Rattle.std.proofs.Common.{◌≡◌, ℕ, ◌+◌, ◌<◌, ◌≤◌, Bool, true, false, cond, List, [], ◌∷◌, length}
 use Rattle.std.proofs.Common.{Some, None, Option, sym, refl, ap, ◌∙◌, subst, arith, zero, suc}
 use Rattle.std.proofs.Common.{nat_lt}
@@ -36,11 +36,12 @@ use Rattle.count.specs.Calls.{begin_state, step_refusal, step_state, close_refus
 use Rattle.count.specs.Calls.{react_state, new_state}
 use Rattle.count.specs.Machine.{kind_effect}
 use Rattle.count.proofs.Presence.{within_empty, within_step, within_word, fits_at}
-use Rattle.count.proofs.Sound.{never, same_phase, after_not_open, over_after, over_ended}
+use Rattle.count.proofs.OverEnded.{over_ended}
+use Rattle.count.proofs.Sound.{never, same_phase, after_not_open, over_after}
 use Rattle.relay.specs.Asked.{Asked, begin, step, close, react, take_over, of_bytes, OfBytes}
 use Rattle.relay.specs.History.{after_call, after_calls}
-use Rattle.relay.proofs.Accepted.{was_ready, none_ready, never_refused}
-use Rattle.relay.proofs.Instants.{run_legal, model_runs}
+use Rattle.relay.proofs.AcceptedCalls.{was_ready, none_ready, never_refused}
+use Rattle.relay.proofs.OneCall.{run_legal, model_runs}
 
 room_and_inputs : (b : Bool) (o : Option ℕ) → cond b (Some NoInstantLeft) (not_input o) ≡ None
     → (b ≡ false) × (o ≡ None)
@@ -100,6 +101,7 @@ module _ (gs : List SignalKind) (ks : List Kind) (C : Checked gs ks) (few : leng
   unless None s t a f = f refl
   unless (Some r) s t a f = a
 
+  -- the state of a new count is sound
   pub sound_start : S (new_state ks)
   sound_start =
       record {
@@ -208,6 +210,7 @@ module _ (gs : List SignalKind) (ks : List Kind) (C : Checked gs ks) (few : leng
   sound_after s (take_over bytes) u S =
       unless (taking_refusal gs ks bytes) _ _ S (taken_sound gs ks bytes C.some u)
 
+  -- and so is the state after any calls
   pub sound_calls : (cs : List Asked) (s : State) → OfBytes cs → S s → S (after_calls gs ks s cs)
   unfolding after_calls OfBytes
   sound_calls [] s u S = S

@@ -1,4 +1,4 @@
--- calls, a record, and later calls
+-- earlier calls, a record, and later calls: what is heard goes on where the record was left
 use Rattle.std.proofs.Common.{◌≡◌, ℕ, ◌≤◌, Bool, List, [], ◌∷◌, ◌++◌, length, Some, None, Option}
 use Rattle.std.proofs.Common.{append_assoc, sym, refl, ap, ap₂, ◌∙◌, subst}
 use Rattle.routine.specs.declared.kinds.Kind.{Kind}
@@ -21,6 +21,7 @@ use Rattle.relay.specs.Heard.{Ear, Grows, TellsAll, GoesOn, StaysWhereRefused}
 use Rattle.relay.proofs.Histories.{trace_append, after_append}
 use Rattle.relay.proofs.Reached.{sound_start, sound_calls}
 
+-- the same, where the list of what was heard is equal
 pub grows_as : (a b : Ear) (x y : List Transition) → Grows a b x → x ≡ y → Grows a b y
 grows_as a b x y g e = subst (Grows a b) e g
 
@@ -40,22 +41,25 @@ module _ (gs : List SignalKind) (ks : List Kind) where
 
   module _ (t : State) (earlier : List Asked) (bytes : List ℕ) (later : List Asked) (old new : Ear)
       (all : Grows old new (trace gs ks t (earlier ++ (take_over bytes ∷ later)))) where
-    abbrev by : Option Refusal → List Transition
-    by o = trace gs ks t earlier
+    -- the trace, where o says why the record is refused, if it is
+    abbrev trace_by : Option Refusal → List Transition
+    trace_by o = trace gs ks t earlier
         ++ (if_accepted o takes_over
         ∷ trace gs ks (after o (after_calls gs ks t earlier) (state_in (length ks) bytes)) later)
 
-    by_answer : (o : Option Refusal) → taking_refusal gs ks bytes ≡ o → Grows old new (by o)
+    by_answer : (o : Option Refusal) → taking_refusal gs ks bytes ≡ o → Grows old new (trace_by o)
     by_answer o h =
         grows_as old new _ _ all
         (trace_append gs ks earlier (take_over bytes ∷ later) t
         ∙ ap (λ ps. trace gs ks t earlier ++ ps)
         (trace_cons (take_over bytes) later (after_calls gs ks t earlier))
-        ∙ ap by h)
+        ∙ ap trace_by h)
 
+    -- a record that is refused
     pub refuses_on : StaysWhereRefused gs ks t earlier bytes later old new
     refuses_on r h = by_answer (Some r) h
 
+    -- the record of a sound state
     pub from_sound : length ks ≤ 256 → length gs ≤ 64 → (s : State) → Sound gs ks s
         → bytes ≡ record_of (length gs) (length ks) s
         → Grows old new (trace gs ks t earlier ++ (takes_over ∷ trace gs ks s later))
@@ -65,12 +69,13 @@ module _ (gs : List SignalKind) (ks : List Kind) where
         (ap (λ (x : State). trace gs ks t earlier ++ (takes_over ∷ trace gs ks x later))
         (ap (state_in (length ks)) e ∙ back.1))
 
+    -- the record of a state to which calls lead
     pub goes_on : Checked gs ks → length ks ≤ 256 → length gs ≤ 64
         → GoesOn gs ks t earlier bytes later old new
     goes_on C n m cs u e = from_sound n m (after_calls gs ks (new_state ks) cs)
         (sound_calls gs ks C n cs (new_state ks) u (sound_start gs ks C n)) e
 
-  -- and where that leaves a count
+  -- the record of a sound state: where the later calls leave the count
   pub left_from_sound : length ks ≤ 256 → length gs ≤ 64 → (s t : State) → Sound gs ks s
       → (bytes : List ℕ) → bytes ≡ record_of (length gs) (length ks) s → (later : List Asked)
       → after_calls gs ks t (take_over bytes ∷ later) ≡ after_calls gs ks s later
@@ -83,10 +88,10 @@ module _ (gs : List SignalKind) (ks : List Kind) where
       after_calls gs ks (after o t x) later) back.0 back.1
 
 module _ {B : Type 0} {G : Ghosts B} (present : B → List Bool) where
-  -- calls told after others
-  told_after : (a b c : Count B G) (cs ds : List Asked) (x y z : Ear) → TellsAll present a b cs x y
+  -- calls after others
+  tells_after : (a b c : Count B G) (cs ds : List Asked) (x y z : Ear) → TellsAll present a b cs x y
       → TellsAll present b c ds y z → TellsAll present a c (cs ++ ds) x z
-  told_after a b c cs ds x y z p q =
+  tells_after a b c cs ds x y z p q =
       let gs = signals_of a in
       let ks = kinds_of a in
       let s = state_of present a in
@@ -110,11 +115,12 @@ module _ {B : Type 0} {G : Ghosts B} (present : B → List Bool) where
         };
       }
 
+  -- the three lists of calls, one after another, as one list
   pub resumed : (a b c d : Count B G) (earlier : List Asked) (bytes : List ℕ) (later : List Asked)
       (w x y z : Ear)
       → TellsAll present a b earlier w x → TellsAll present b c (take_over bytes ∷ []) x y
       → TellsAll present c d later y z
       → TellsAll present a d (earlier ++ (take_over bytes ∷ later)) w z
   resumed a b c d earlier bytes later w x y z p q r =
-      told_after a b d earlier (take_over bytes ∷ later) w x z p
-      (told_after b c d (take_over bytes ∷ []) later x y z q r)
+      tells_after a b d earlier (take_over bytes ∷ later) w x z p
+      (tells_after b c d (take_over bytes ∷ []) later x y z q r)

@@ -1,4 +1,4 @@
--- calls told one after another
+-- calls carried out and told one after another
 use Rattle.std.proofs.Common.{ℕ, ◌+◌, ◌<◌, ◌≡◌, Bool, false, List, [], ◌∷◌, ◌++◌, map, append_assoc}
 use Rattle.std.proofs.Common.{length, drop, get_or, subst, sym, ap, ap₂, ◌∙◌}
 use Rattle.std.proofs.lemmas.List.{append-nil, drop_more}
@@ -8,13 +8,13 @@ use Rattle.signals.specs.declared.board.Board.{Ghosts}
 use Rattle.record.specs.State.{State}
 use Rattle.count.specs.CountView.{kinds_of, signals_of, state_of, SameRoutine}
 use Rattle.count.specs.declared.counts.Count.{Count}
-use Rattle.relay.specs.declared.calls.Call.{Call}
+use Rattle.relay.specs.declared.call.Call.{Call}
 use Rattle.relay.specs.Asked.{Asked, asked}
 use Rattle.relay.specs.Heard.{Ear, Tells, TellsAll}
 use Rattle.relay.specs.History.{Transition, transition_of, after_call, trace, after_calls}
 
 module _ {B : Type 0} {G : Ghosts B} (present : B → List Bool) where
-  -- of the calls on c some have been told, and d is left; the rest is still to be called
+  -- of the calls on c some have been told, and d is left; the rest is still to be carried out
   pub record Telling (c d : Count B G) (calls rest : List Asked) (old new : Ear) : Type 0 where
     pub kept : new.lost ≡ false → old.lost ≡ false
     pub tells : new.lost ≡ false
@@ -24,7 +24,8 @@ module _ {B : Type 0} {G : Ghosts B} (present : B → List Bool) where
         ≡ after_calls (signals_of c) (kinds_of c) (state_of present c) calls
     pub routine : SameRoutine c d
 
-  pub telling_more : (c d e : Count B G) (calls rest : List Asked) (call : Asked)
+  -- one call more
+  telling_more : (c d e : Count B G) (calls rest : List Asked) (call : Asked)
       (old new new' : Ear) → Telling c d calls (call ∷ rest) old new
       → Tells present d e call new new' → Telling c e calls rest old new'
   unfolding trace after_calls
@@ -66,6 +67,7 @@ module _ {B : Type 0} {G : Ghosts B} (present : B → List Bool) where
       (subst (λ (xs : List Call). Telling c d all (map asked xs) old new)
       (drop_more calls i x l) h) y
 
+  -- all are told
   pub telling_all : (c d : Count B G) (calls : List Asked) (old new : Ear)
       → Telling c d calls [] old new → TellsAll present c d calls old new
   unfolding trace after_calls

@@ -1,4 +1,4 @@
--- what listeners hear of calls, and of a relay
+-- what listeners hear of calls, and of a relay, whose second board goes on from a record
 use Rattle.std.specs.Prelude.{◌≡◌, ℕ, Bool, false, List, [], ◌∷◌, ◌++◌, length, Some}
 use Rattle.routine.specs.declared.kinds.Kind.{Kind}
 use Rattle.routine.specs.declared.kinds.SignalKind.{SignalKind}
@@ -17,18 +17,19 @@ use Rattle.relay.specs.declared.news.News.TheVariants.{Refused}
 use Rattle.relay.specs.Asked.{Asked, OfBytes}
 use Rattle.relay.specs.History.{Transition, begins, steps, closes, reacts, takes_over, refuses}
 use Rattle.relay.specs.History.{transition_of, after_call, trace, after_calls}
-use Rattle.relay.specs.Promises.{taken, AsModel, SameInstants}
+use Rattle.relay.specs.ClosedInstants.{taken, AsModel, SameInstants}
 
 -- what was heard, and whether something of it was lost, as for want of memory
 pub record Ear : Type 0 where
   pub heard : List Transition
   pub lost : Bool
 
--- where nothing is lost now, nothing was before, and ps was heard since
+-- where nothing is lost now, nothing was before, and the transitions ps were heard since
 pub record Grows (old new : Ear) (ps : List Transition) : Type 0 where
   pub kept : new.lost ≡ false → old.lost ≡ false
   pub heard : new.lost ≡ false → new.heard ≡ old.heard ++ ps
 
+-- the transition that a listener hears of
 abbrev pub hears : News → Transition
 hears (Begun word) = begins word
 hears (Stepped k) = steps k
@@ -38,7 +39,7 @@ hears TakenOver = takes_over
 hears (Refused r) = refuses r
 
 module _ {B : Type 0} {G : Ghosts B} where
-  -- a call on c that leaves d, while what was heard grows from old to new
+  -- a call on c that leaves d, while what was heard grows from old to new by its transition
   pub record Tells (present : B → List Bool) (c d : Count B G) (call : Asked)
       (old new : Ear) : Type 0 where
     pub tells : Grows old new
@@ -47,7 +48,7 @@ module _ {B : Type 0} {G : Ghosts B} where
         ≡ after_call (signals_of c) (kinds_of c) (state_of present c) call
     pub routine : SameRoutine c d
 
-  -- the same of calls one after another
+  -- the same of calls one after another, by their trace
   pub record TellsAll (present : B → List Bool) (c d : Count B G) (calls : List Asked)
       (old new : Ear) : Type 0 where
     pub tells : Grows old new (trace (signals_of c) (kinds_of c) (state_of present c) calls)
@@ -55,8 +56,8 @@ module _ {B : Type 0} {G : Ghosts B} where
         ≡ after_calls (signals_of c) (kinds_of c) (state_of present c) calls
     pub routine : SameRoutine c d
 
--- (of a routine) calls from the state t on, then a record, then later calls, while what was heard
--- grows from old to new
+-- (of a routine) earlier calls from the state t on, then a record, then later calls, while what was
+-- heard grows from old to new
 module _ (gs : List SignalKind) (ks : List Kind) (t : State) (earlier : List Asked) (bytes : List ℕ)
     (later : List Asked) (old new : Ear) where
   -- whatever calls the record comes from: what is heard goes on where they left their count
@@ -75,8 +76,8 @@ module _ (gs : List SignalKind) (ks : List Kind) (t : State) (earlier : List Ask
       → Grows old new (trace gs ks t earlier
       ++ (refuses r ∷ trace gs ks (after_calls gs ks t earlier) later))
 
--- what was heard in a relay: ps of the calls on the first board, and after the take over qs of
--- those on the second; nothing was lost, and no take over was accepted among them
+-- what was heard in a relay: the trace ps of the calls on the first board, and after the take over
+-- the trace qs of those on the second; nothing was lost, and no take over was accepted in them
 pub record Observation (old new old' new' : Ear) (ps qs : List Transition) : Type 0 where
   pub first : new.lost ≡ false
   pub second : new'.lost ≡ false
@@ -84,12 +85,14 @@ pub record Observation (old new old' new' : Ear) (ps qs : List Transition) : Typ
   pub later : new'.heard ≡ old'.heard ++ (takes_over ∷ qs)
   pub untaken : taken (ps ++ qs) ≡ false
 
--- what was heard in a relay is the model's
+-- what was heard in a relay is as the plain model says
 abbrev pub ObservedAsModel : List SignalKind → List Kind → Ear → Ear → Ear → Ear → Type 0
 ObservedAsModel gs ks old new old' new' = (ps qs : List Transition)
     → Observation old new old' new' ps qs → AsModel gs ks (ps ++ qs)
 
--- what was heard in two relays of a routine of n statements: the same words give the same instants
+-- what was heard in two relays of a routine of n statements: the same first words give the same
+-- closed instants
 abbrev pub ObservedAlike : ℕ → (a a' b b' c c' d d' : Ear) → Type 0
-ObservedAlike n a a' b b' c c' d d' = (ps qs rs ss : List Transition) → Observation a a' b b' ps qs
-    → Observation c c' d d' rs ss → SameInstants n (ps ++ qs) (rs ++ ss)
+ObservedAlike n a a' b b' c c' d d' = (ps qs rs ss : List Transition)
+    → Observation a a' b b' ps qs → Observation c c' d d' rs ss
+    → SameInstants n (ps ++ qs) (rs ++ ss)

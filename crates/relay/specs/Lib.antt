@@ -1,6 +1,6 @@
 pub mod Asked
+pub mod ClosedInstants
 pub mod Heard
 pub mod History
-pub mod Promises
+pub mod KeptEvents
 pub mod Relays
-pub mod View

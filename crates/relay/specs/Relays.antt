@@ -12,7 +12,7 @@ use Rattle.count.specs.Calls.{new_state}
 use Rattle.relay.specs.Asked.{Asked}
 use Rattle.relay.specs.History.{takes_over, trace, after_calls}
 use Rattle.relay.specs.Heard.{Ear, Grows}
-use Rattle.relay.specs.declared.relays.Relayed.{Relayed}
+use Rattle.relay.specs.declared.two_boards.Relayed.{Relayed}
 
 -- (of a routine) boards that show their signals by `first` and `second`
 module _ {A B : Type 0} (first : A → List Bool) (second : B → List Bool) (gs : List SignalKind)

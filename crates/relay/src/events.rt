@@ -1,28 +1,36 @@
 use count::Closing;
 use routine::{Mark, Refusal};
 
-// What a call came to, as it is kept.
+/// What a call came to, as a `Keeper` keeps it: its lists are its own, so it outlives the call.
+/// `News` is the same while the call is told, and takes no memory.
 #[derive(Debug, Drop)]
 pub enum Event {
+    /// A begin was accepted.
     Begun {
         word: u64,
     },
+    /// A step of that statement was accepted.
     Stepped {
         statement: usize,
     },
-    // The closing, and the marks that remain.
+    /// A close was accepted.
     Closed {
         closing: Closing,
+        /// The marks that remain, one for each statement.
         marks: Vec<Mark>,
     },
-    // And the statements that the react stepped, in their order.
+    /// A react was accepted.
     Reacted {
         word: u64,
         closing: Closing,
+        /// The marks that remain, one for each statement.
         marks: Vec<Mark>,
+        /// The statements that it stepped, in their order.
         stepped: Vec<usize>,
     },
+    /// A record was taken over.
     TakenOver,
+    /// The call was refused, so the count is as it was.
     Refused {
         refusal: Refusal,
     },

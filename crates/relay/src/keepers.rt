@@ -1,7 +1,7 @@
 ghost use Rattle.std.specs.Prelude.{◌≡◌, IfOk, IfErr, map, vec_items, true, false, [], ◌∷◌};
 ghost use Rattle.routine.specs.Kinds.{marks};
 ghost use Rattle.relay.specs.Heard.{Grows, hears};
-ghost use Rattle.relay.specs.View.{tells, ear_of};
+ghost use Rattle.relay.specs.KeptEvents.{tells, ear_of};
 
 use crate::events::Event;
 use crate::listeners::Listener;
@@ -9,11 +9,12 @@ use crate::news::News;
 use routine::{Mark, Statement};
 use std::alloc::{AllocError, Global};
 
-// Keeps all that it hears, as long as there is memory.
+/// A listener that keeps all that it hears, as long as there is memory.
 #[derive(Debug, Drop)]
 pub struct Keeper {
     heap: Global,
     events: Vec<Event>,
+    // Something could not be kept for want of memory.
     lost: bool,
 }
 
@@ -23,6 +24,7 @@ fn marks_of(heap: Global, statements: &[Statement]) -> Result<Vec<Mark>, AllocEr
     statements.iter().map(|row| row.mark).collect(heap)
 }
 
+// What was heard, to be kept.
 fn event(heap: Global, news: News<'_>) -> Result<Event, AllocError>
     ensures { IfOk result (λ e. tells e ≡ hears news.entry) }
 {
@@ -53,7 +55,7 @@ fn event(heap: Global, news: News<'_>) -> Result<Event, AllocError>
 }
 
 impl Keeper {
-    // A keeper that has heard nothing.
+    /// A keeper that has heard nothing, and takes its memory from `heap`.
     pub fn new(heap: Global) -> Keeper
         ensures { ear_of result ≡ record { heard = []; lost = false } }
     {
@@ -72,7 +74,7 @@ impl Keeper {
         Ok(())
     }
 
-    // All that it heard, or want of memory where something of it was lost.
+    /// All that it heard, in its order, or `AllocError` where something of it was lost.
     pub fn events(self) -> Result<Vec<Event>, AllocError>
         ensures all { IfOk result
             (λ es. ear_of self ≡ record { heard = map tells (vec_items es); lost = false }) }

@@ -1,19 +1,19 @@
 #![tactic(auto)]
 
-mod calls;
+mod call;
+mod carry_out;
 mod events;
 mod keepers;
 mod listeners;
 mod news;
-mod relays;
 mod resumes;
-mod tellings;
+mod two_boards;
 
-pub use calls::Call;
+pub use call::Call;
+pub use carry_out::carry_out_all;
 pub use events::Event;
 pub use keepers::Keeper;
 pub use listeners::Listener;
 pub use news::News;
-pub use relays::{Plan, Relayed, relay, relay_twice};
 pub use resumes::resume;
-pub use tellings::carry_out_all;
+pub use two_boards::{Plan, Relayed, relay, relay_twice};

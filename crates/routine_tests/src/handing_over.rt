@@ -1,5 +1,5 @@
 use crate::building::{INPUT, LOCAL, OUTPUT, nest, routine};
-use count::{Closing, Count, Phase, change_board, forward};
+use count::{Closing, Count, Phase, change_board};
 use record::{Head, MOST_INSTANTS, RECORD_BYTES, Saved};
 use routine::{MOST_SIGNALS, MOST_STATEMENTS, Mark, Refusal, Routine};
 use rules::Status;
@@ -128,9 +128,11 @@ fn handed_over(rt: HostRuntime) -> Result<(), Fail> {
     assert!(rt; handed == record(OPEN, OPEN_MARKS));
     assert!(rt; moved.left.ask(1));
     goes_on(&rt, moved.count)?;
-    let count = Count::new(every_kind(rt.alloc())?, BitBoard::new());
-    let (sent_on, left) = forward(count, &handed);
-    assert!(rt; sent_on == Ok(handed));
+    let mut count = Count::new(every_kind(rt.alloc())?, BitBoard::new());
+    count.take_over(&handed)?;
+    let mut again = [0; 279];
+    let left = count.hand_over(&mut again);
+    assert!(rt; again == handed);
     assert!(rt; left.board.ask(1));
     Ok(())
 }

@@ -1,2 +1,2 @@
-pub mod Words
-pub mod Reacted
+pub mod InputWords
+pub mod WordLines

@@ -13,12 +13,13 @@ use Rattle.record.specs.State.{State}
 use Rattle.count.specs.Texts.{closing_text}
 use Rattle.count.specs.Calls.{new_state, begin_refusal, react_closing, react_state}
 use Rattle.input.specs.Input.{table_part, rest_part}
-use Rattle.run.specs.Words.{words_of}
+use Rattle.run.specs.InputWords.{words_of}
 
 -- a closed instant: its number, the output word, the status, the steps
 abbrev pub closing_line : Closing → List ℕ
 closing_line c = closing_text c ++ line_end
 
+-- a refusal
 abbrev pub refused_line : Refusal → List ℕ
 refused_line e = refusal_line e ++ line_end
 
@@ -40,5 +41,6 @@ abbrev pub started : Result (List SignalKind × List Statement) Refusal → List
 started (Ok p) ws = Ok (lines p.0 (kinds p.1) (new_state (kinds p.1)) ws)
 started (Err e) ws = Err e
 
+-- the whole input
 abbrev pub listing_of : List ℕ → Result (List ℕ) Refusal
 listing_of bytes = started (load_of (table_part bytes)) (words_of (rest_part bytes))

@@ -1,3 +1,3 @@
-pub mod Texts
+pub mod SummaryText
 pub mod Examples
 pub mod Worked

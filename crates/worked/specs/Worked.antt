@@ -4,7 +4,7 @@ use Rattle.routine.specs.declared.kinds.SignalKind.TheVariants.{Input, Output, L
 use Rattle.routine.specs.declared.kinds.Kind.TheVariants.{Nothing, Stop, Emit, Wait, Sequence}
 use Rattle.routine.specs.declared.kinds.Kind.TheVariants.{Parallel, Loop, When, Kill, Local}
 use Rattle.routine.specs.declared.refusals.Refusal.TheVariants.{EndlessLoop, AlreadyOver, NotReady}
-use Rattle.rules.specs.declared.status.Status.TheVariants.{Suspended as S, Terminated as T}
+use Rattle.rules.specs.declared.status.Status.TheVariants.{Suspended, Terminated}
 use Rattle.rules.specs.Rules.{UnderWay, Done}
 use Rattle.relay.specs.Asked.{begin, step, close}
 use Rattle.relay.specs.History.{begins, steps, closes, refuses}
@@ -18,10 +18,14 @@ nothing_at_all =
       signals = [];
       kinds = Nothing ∷ [];
       refusal = None;
-      words = (0, (0, T, 0)) ∷ [];
+      words = (0, (0, Terminated, 0)) ∷ [];
       calls =
           (begin 0, begins 0)
-          ∷ (close, closes (record { instant = 1; outputs = 0; status = T; steps = 0 }) (Done ∷ []))
+          ∷ (
+            close,
+            closes (record { instant = 1; outputs = 0; status = Terminated; steps = 0 })
+                (Done ∷ []),
+          )
           ∷ (begin 0, refuses AlreadyOver)
           ∷ [];
     }
@@ -34,7 +38,7 @@ just_stop =
       signals = [];
       kinds = Stop ∷ [];
       refusal = None;
-      words = (0, (0, S, 0)) ∷ (0, (0, T, 0)) ∷ [];
+      words = (0, (0, Suspended, 0)) ∷ (0, (0, Terminated, 0)) ∷ [];
       calls = [];
     }
 
@@ -48,7 +52,7 @@ relayed =
       kinds = Parallel 1 6 ∷ Parallel 2 5 ∷ When 0 3 4 ∷ Emit 1 ∷ Nothing ∷ Emit 0 ∷ Sequence 7 8
           ∷ Wait 1 ∷ Emit 2 ∷ [];
       refusal = None;
-      words = (0, (7, T, 6)) ∷ [];
+      words = (0, (7, Terminated, 6)) ∷ [];
       calls = [];
     }
 
@@ -60,7 +64,7 @@ too_late =
       signals = Own ∷ [];
       kinds = Local 0 1 ∷ When 0 2 3 ∷ Nothing ∷ Emit 0 ∷ [];
       refusal = None;
-      words = (0, (0, S, 1)) ∷ (0, (0, T, 3)) ∷ [];
+      words = (0, (0, Suspended, 1)) ∷ (0, (0, Terminated, 3)) ∷ [];
       calls = [];
     }
 
@@ -72,7 +76,7 @@ killed =
       signals = Input ∷ Output ∷ [];
       kinds = Sequence 1 4 ∷ Kill 0 2 ∷ Loop 3 ∷ Stop ∷ Emit 1 ∷ [];
       refusal = None;
-      words = (0, (0, S, 1)) ∷ (1, (0, S, 2)) ∷ (0, (2, T, 2)) ∷ [];
+      words = (0, (0, Suspended, 1)) ∷ (1, (0, Suspended, 2)) ∷ (0, (2, Terminated, 2)) ∷ [];
       calls = [];
     }
 
@@ -84,7 +88,7 @@ over_already =
       signals = Input ∷ [];
       kinds = Kill 0 1 ∷ Nothing ∷ [];
       refusal = None;
-      words = (1, (0, T, 1)) ∷ [];
+      words = (1, (0, Terminated, 1)) ∷ [];
       calls = [];
     }
 
@@ -98,7 +102,12 @@ new_life =
       kinds = Loop 1 ∷ Local 0 2 ∷ Sequence 3 6 ∷ When 0 4 5 ∷ Emit 1 ∷ Nothing ∷ Sequence 7 8
           ∷ Stop ∷ Emit 0 ∷ [];
       refusal = None;
-      words = (0, (0, S, 2)) ∷ (0, (0, S, 2)) ∷ (0, (0, S, 7)) ∷ (0, (0, S, 2)) ∷ [];
+      words =
+          (0, (0, Suspended, 2))
+          ∷ (0, (0, Suspended, 2))
+          ∷ (0, (0, Suspended, 7))
+          ∷ (0, (0, Suspended, 2))
+          ∷ [];
       calls = [];
     }
 
@@ -110,7 +119,7 @@ side_by_side =
       signals = Output ∷ [];
       kinds = Parallel 1 2 ∷ Emit 0 ∷ Wait 0 ∷ [];
       refusal = None;
-      words = (0, (1, T, 2)) ∷ [];
+      words = (0, (1, Terminated, 2)) ∷ [];
       calls =
           (begin 0, begins 0)
           ∷ (step 2, refuses (NotReady 2))
@@ -118,7 +127,7 @@ side_by_side =
           ∷ (step 2, steps 2)
           ∷ (
             close,
-            closes (record { instant = 1; outputs = 1; status = T; steps = 2 })
+            closes (record { instant = 1; outputs = 1; status = Terminated; steps = 2 })
                 (UnderWay ∷ Done ∷ Done ∷ []),
           )
           ∷ [];

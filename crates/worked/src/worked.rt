@@ -1,22 +1,26 @@
-ghost use Rattle.std.specs.Prelude.{◌≡◌, Some};
-ghost use Rattle.worked.specs.Texts.{summary_text};
-ghost use Rattle.worked.specs.Examples.{Each, Holds, lines};
+ghost use Rattle.std.specs.Prelude.{◌≡◌, All, Some};
+ghost use Rattle.worked.specs.SummaryText.{summary_text};
+ghost use Rattle.worked.specs.Examples.{Holds, lines};
 ghost use Rattle.worked.specs.Worked.{examples};
 
 use rules::Status;
 use std::fmt;
 
-// What one instant of a worked routine comes to.
+/// What one instant of a worked routine comes to.
 #[derive(Clone, Copy, Debug, PartialEq, Eq)]
 pub struct Summary {
+    /// The number of the routine, from 1 on.
     pub routine: u8,
+    /// The number of the instant, from 1 on.
     pub instant: u8,
+    /// Bit s of the word: output s is present.
     pub outputs: u64,
     pub status: Status,
+    /// How many steps the instant had.
     pub steps: u16,
 }
 
-// The routine, the instant, the output word, the status and the steps.
+/// The routine, the instant, the output word in sixteen hexadecimal digits, the status, the steps.
 impl fmt::Display for Summary {
     ghost output = { λ s. Some (summary_text s) };
 
@@ -32,11 +36,11 @@ impl fmt::Display for Summary {
     }
 }
 
-// What the plain model makes of the words of the worked routines, instant by instant; and all that
-// is claimed of them holds.
+/// What the plain model makes of the words of the worked routines, instant by instant (`lines`).
+/// All that is claimed of these routines holds (`claims`).
 pub fn worked_routines() -> [Summary; 15]
     ensures lines { result ≡ lines examples }
-    ensures claims { Each Holds examples }
+    ensures claims { All Holds examples }
 {
     [
         Summary {

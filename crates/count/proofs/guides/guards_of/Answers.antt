@@ -1,5 +1,6 @@
 use Rattle.std.proofs.Common.{◌≤◌, ◌+◌, List, ℕ, length, sym, ap, ◌∙◌, subst, arith}
 use Rattle.routine.specs.declared.kinds.Kind.{Kind}
+use Rattle.routine.specs.declared.tables.TheConstants.{MOST_STATEMENTS}
 use Rattle.routine.specs.Kinds.{shape}
 use Rattle.routine.specs.View.{table_kinds, table_signals}
 use Rattle.rules.proofs.Checked.{table, of_routine}
@@ -12,7 +13,7 @@ loop-i-preserved c =
     let r = c.args.routine.now in
     let ks = table_kinds r.table in
     let n = c.count-i-end.ensures in
-    let few : length ks ≤ 256 = omega (arith, n.value, n.rows, r.table.most) in
+    let few : length ks ≤ MOST_STATEMENTS = omega (arith, n.value, n.rows, r.table.most) in
     let T = table (table_signals r.table) ks (of_routine r) in
     subst (λ (vs : List ℕ). Guarded ks vs (c.loop-i.i + 1))
     (sym (c.guard_parts.ensures

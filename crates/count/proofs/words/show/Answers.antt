@@ -1,5 +1,6 @@
 use Rattle.std.proofs.Common.{◌<◌, ◌+◌, List, Bool, false, sym, ap, ◌∙◌, subst, get_or, ext_get_or}
 use Rattle.std.proofs.Common.{arith}
+use Rattle.signals.specs.declared.board.TheConstants.{SIGNALS}
 use Rattle.signals.specs.Sizes.{length-word_set}
 use Rattle.signals.proofs.Sets.{get_or-empty}
 use Rattle.signals.proofs.WordSets.{get_or-word_set}
@@ -35,7 +36,7 @@ returns g c =
     let e = g.met.B.Board.size c.loop-s.board in
     let i = c.loop-s.invariant in
     let n = c.width-s-end.ensures in
-    ext_get_or false _ _ (e ∙ sym (length-word_set w)) (λ k l. let m : k < 64 = omega arith in
+    ext_get_or false _ _ (e ∙ sym (length-word_set w)) (λ k l. let m : k < SIGNALS = omega arith in
     elim (dec_lt k c.loop-s.s) [
       | yes u ↦ i.done k u
       | no d ↦ i.ahead k (omega arith)

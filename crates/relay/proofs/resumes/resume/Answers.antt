@@ -10,9 +10,12 @@ use Rattle.relay.proofs.resumes.resume.Goals as goal
 abbrev tells : goal.returns-clause-tells
 tells g c =
     let ear = g.L.Listener.ear in
-    resumed g.B.Board.present c.args.count.now c.carry_out_all.new.count c.carry_out_all-2.new.count c.carry_out_all-3.new.count (map asked c.args.earlier.now) c.args.handed.now (map asked c.args.later.now)
-    (ear c.args.listener.now) (ear c.carry_out_all.new.listener)
-    (ear c.carry_out_all-2.new.listener) (ear c.carry_out_all-3.new.listener)
+    let one = c.carry_out_all.new in
+    let two = c.carry_out_all-2.new in
+    let three = c.carry_out_all-3.new in
+    resumed g.B.Board.present c.args.count.now one.count two.count three.count
+    (map asked c.args.earlier.now) c.args.handed.now (map asked c.args.later.now)
+    (ear c.args.listener.now) (ear one.listener) (ear two.listener) (ear three.listener)
     c.carry_out_all.ensures c.carry_out_all-2.ensures c.carry_out_all-3.ensures
 
 pub returns-clause-tells : goal.returns-clause-tells
@@ -23,8 +26,7 @@ returns-clause-goes_on g c =
     let d = c.args.count.now in
     goes_on (signals_of d) (kinds_of d) (state_of g.B.Board.present d)
     (map asked c.args.earlier.now) c.args.handed.now (map asked c.args.later.now) _ _
-    (tells g c).tells
-    (checked d.rows) (few_kinds d.rows.routine.table) (few_signals d.rows)
+    (tells g c).tells (checked d.rows) (few_kinds d.rows.routine.table) (few_signals d.rows)
 
 pub returns-clause-refused : goal.returns-clause-refused
 returns-clause-refused g c =

@@ -1,7 +1,7 @@
 use Rattle.std.proofs.Common.{◌≡◌, ◌++◌, string_bytes}
-use Rattle.run.specs.Words.{words_of}
-use Rattle.run.proofs.Words.{words_after}
-use Rattle.run.proofs.Reacted.{to_come}
+use Rattle.run.specs.InputWords.{words_of}
+use Rattle.run.proofs.InputWords.{words_after}
+use Rattle.run.proofs.WordLines.{to_come}
 use Rattle.run.proofs.listing.write_lines.Given as goal
 
 abbrev pub invariant-loop-word : goal.invariant-loop-word

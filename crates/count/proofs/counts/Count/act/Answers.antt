@@ -8,7 +8,8 @@ use Rattle.count.proofs.counts.Count.act.Goals as goal
 
 pub fire-requires : goal.fire-requires
 fire-requires g c =
-    ready_applies c.args.self.now.rows _ c.args.k _ c.requires.ready c.own_signal_present-own_signal_present.ensures
+    ready_applies c.args.self.now.rows _ c.args.k _ c.requires.ready
+    c.own_signal_present-own_signal_present.ensures
 
 pub invariant_of-self-clause-legal : goal.invariant_of-self-clause-legal
 invariant_of-self-clause-legal g c =

@@ -2,6 +2,7 @@ use Rattle.std.proofs.Common.{◌≡◌, ℕ, Bool, true, false, not, ◌&&◌, 
 use Rattle.std.proofs.Common.{◌∙◌, rules}
 use Rattle.std.proofs.lemmas.Iterator.{first_from_Range}
 use borrow.Author.Tests.{tests}
+use Rattle.signals.specs.declared.board.TheConstants.{SIGNALS}
 use Rattle.count.specs.CountView.{signals_of}
 use Rattle.count.specs.Calls.{is_not_input, first_not_input}
 use Rattle.routine.proofs.Searches.{finds, lowest_by}
@@ -23,6 +24,6 @@ returns g c =
     (λ (s : ℕ). P s ≡ false) c.find.ensures.ran (λ x q k. search (rules, tests))
     (λ x q k. search (rules, tests))))
     (λ s b l e. sym e)
-    ∙ sym (lowest_longer P n 64 c.width.ensures.short
+    ∙ sym (lowest_longer P n SIGNALS c.width.ensures.short
     (λ k l. ap (λ (b : Bool). b && not (is_input (slice_index_or gs k Local)))
     (no_bit w n k c.width.ensures.within l)))

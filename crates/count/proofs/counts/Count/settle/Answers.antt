@@ -1,4 +1,4 @@
-use Rattle.std.proofs.Common.{length, refl, ap, ◌∙◌, arith}
+use Rattle.std.proofs.Common.{length, refl, ap, ◌∙◌, arith, rules}
 use Rattle.record.specs.State.{State}
 use Rattle.record.specs.Phases.{is_open}
 use Rattle.rules.specs.Rules.{ready}
@@ -48,28 +48,21 @@ loop-turn-preserved g c =
           c.front_after-front.ensures.from c.front_after-front.ensures.guard
           (quiet_after (signals_of s) (kinds_of s)
           (checked s.rows) s.rows.guards s.rows.waiters s.rows.guarded s.rows.awaited
-          (marks_in s.rows) (g.B.Board.present s.board) _ c.loop-turn.front.from c.loop-turn.front.guard c.in-Some.k
+          (marks_in s.rows) (g.B.Board.present s.board) _
+          c.loop-turn.front.from c.loop-turn.front.guard c.in-Some.k
           (many s.rows) i.quiet c.own_signal_present.ensures c.in-Some.ensures);
     }
 
-pub returns-in_default-clause-leaves : goal.returns-in_default-clause-leaves
-returns-in_default-clause-leaves g c =
+pub returns-in_default : goal.returns-in_default
+returns-in_default g c =
     let i = c.loop-turn.invariant in
-    (settled_here (kinds_of c.args.self.now) i.turned
-    (kinds_of c.loop-turn.self) i.routine.kinds c.in_default.ensures).leaves
+    let s = settled_here (kinds_of c.args.self.now) i.turned
+    (kinds_of c.loop-turn.self) i.routine.kinds c.in_default.ensures in
+    record { leaves = s.leaves; told = s.told; turns = s.turns; routine = i.routine }
 
-pub returns-in_default-clause-told : goal.returns-in_default-clause-told
-returns-in_default-clause-told g c =
+pub returns : goal.returns
+returns g c =
     let i = c.loop-turn.invariant in
-    (settled_here (kinds_of c.args.self.now) i.turned
-    (kinds_of c.loop-turn.self) i.routine.kinds c.in_default.ensures).told
-
-pub returns-clause-leaves : goal.returns-clause-leaves
-returns-clause-leaves g c =
-    (settled_at_last (kinds_of c.args.self.now) c.loop-turn.invariant.turned
-    (omega (arith, c.count-most.ensures.value))).leaves
-
-pub returns-clause-told : goal.returns-clause-told
-returns-clause-told g c =
-    (settled_at_last (kinds_of c.args.self.now) c.loop-turn.invariant.turned
-    (omega (arith, c.count-most.ensures.value))).told
+    let s = settled_at_last (kinds_of c.args.self.now) i.turned
+    (omega (arith, c.count-most.ensures.value)) in
+    record { leaves = s.leaves; told = s.told; turns = search rules; routine = i.routine }

@@ -1,8 +1,0 @@
-use Rattle.std.proofs.Common.{string_bytes}
-use Rattle.handover.specs.Texts.{byte_text}
-use Rattle.handover.proofs.Each.{Writes}
-use Rattle.handover.proofs.texts.write_bytes.Given as goal
-
-abbrev pub invariant-loop-byte : goal.invariant-loop-byte
-invariant-loop-byte l = Writes byte_text l.bytes l.byte-index (string_bytes l.initial.out)
-    (string_bytes l.out)
