@@ -1,11 +1,11 @@
-ghost use Rattle.std.specs.Prelude.{◌≡◌, Some};
+ghost use Rattle.std.specs.Prelude.{Some};
 ghost use Rattle.input.specs.Printed.{printed_text};
 
 use routine::Refusal;
 use std::fmt;
 
-// What a program prints of a table: the line of its refusal, for which no memory is wanted, or the
-// text of what was done with it.
+/// What a program prints of a table: the line of its refusal, for which no memory is wanted, or the
+/// text of what was done with it.
 #[derive(Debug, Drop)]
 pub enum Printed {
     Refused { refusal: Refusal },

@@ -6,9 +6,8 @@ use Rattle.std.proofs.lemmas.Bool.{and_parts, or_parts, not-true, not-false, eqb
 use Rattle.std.proofs.lemmas.Bool.{cases_lt, cond-false, ne_eqb}
 use Rattle.routine.specs.declared.kinds.Kind.{Kind}
 use Rattle.routine.specs.declared.kinds.SignalKind.{SignalKind}
-use Rattle.routine.specs.Search.{lowest, any}
 use Rattle.routine.specs.Tree.{tree_at}
-use Rattle.routine.proofs.Searches.{none_below}
+use Rattle.routine.proofs.Searches.{none_below, none_passes}
 use Rattle.rules.specs.Rules.{Mark, Idle, over}
 use Rattle.rules.specs.Legal.{keeps}
 use Rattle.record.specs.declared.phases.Phase.{Phase}
@@ -30,14 +29,6 @@ parts_taken true (Some o) m e = absurd (cc)
 parts_taken true None (Some i) e = absurd (cc)
 parts_taken true None None e = (refl, refl, refl)
 
-none_is : (o : Option ℕ) → is_some o ≡ false → o ≡ None
-none_is None e = refl
-none_is (Some i) e = absurd (true≢false e)
-
--- where P holds of none
-nowhere : (P : ℕ → Bool) (n : ℕ) → not (any P n) ≡ true → (k : ℕ) → k < n → P k ≡ false
-nowhere P n h = none_below P n (none_is (lowest P n) (not-true (any P n) h))
-
 unless : (x y : Bool) → (x && not y) ≡ false → x ≡ true → y ≡ true
 unless true y e h = not-false y e
 unless false y e h = absurd (true≢false (sym h))
@@ -48,7 +39,7 @@ unfolding is_fixed_right
 fixed_right n bytes h i l f =
     eqb-true (get_or bytes i 0) (get_or (contents n) i 0)
     (unless (is_fixed n i) (slice_index bytes i == slice_index (contents n) i)
-    (nowhere (is_wrong n bytes) RECORD_BYTES h i l) f)
+    (none_passes (is_wrong n bytes) RECORD_BYTES (not-true _ h) i l) f)
 
 formed : (n : ℕ) (bytes : List ℕ) → has_form n bytes ≡ true
     → (length bytes ≡ RECORD_BYTES) × (is_fixed_right n bytes ≡ true)

@@ -12,9 +12,9 @@ use Rattle.std.proofs.lemmas.Nat.{from_le_bytes-to_le_bytes_8}
 use Rattle.routine.specs.declared.kinds.Kind.{Kind}
 use Rattle.routine.specs.declared.kinds.SignalKind.{SignalKind}
 use Rattle.routine.specs.declared.tables.TheConstants.{MOST_SIGNALS, MOST_STATEMENTS}
-use Rattle.routine.specs.Search.{lowest, any}
+use Rattle.routine.specs.Search.{lowest}
 use Rattle.routine.specs.Tree.{tree_at}
-use Rattle.routine.proofs.Searches.{lowest_none}
+use Rattle.routine.proofs.Searches.{lowest_none, list_any-none_passes}
 use Rattle.signals.specs.declared.board.TheConstants.{SIGNALS}
 use Rattle.signals.specs.Sets.{empty, word_set}
 use Rattle.signals.proofs.WordSets.{word_set-zero}
@@ -43,9 +43,6 @@ use Rattle.record.proofs.Words.{word_below, set_again}
 use Rattle.record.proofs.Places.{in_contents, in_head, in_marks, part_is, length_written}
 use Rattle.record.proofs.Places.{byte_written}
 use Rattle.record.proofs.Fields.{phase_read, mark_read, length-marks_in, at-marks_read, at-marks_in}
-
-everywhere : (P : ℕ → Bool) (n : ℕ) → ((k : ℕ) → k < n → P k ≡ false) → not (any P n) ≡ true
-everywhere P n h = ap (λ o. not (is_some o)) (lowest_none P n h)
 
 -- what is read from a record that was written
 module _ (n : ℕ) (h : Head) (ms : List Mark) (m : length ms ≡ n) (few : n ≤ MOST_STATEMENTS) where
@@ -82,7 +79,8 @@ module _ (n : ℕ) (h : Head) (ms : List Mark) (m : length ms ≡ n) (few : n �
 
   fixed_written : is_fixed_right n (written n h ms) ≡ true
   unfolding is_fixed_right
-  fixed_written = everywhere (is_wrong n (written n h ms)) RECORD_BYTES nothing_wrong
+  fixed_written =
+      ap not (list_any-none_passes (is_wrong n (written n h ms)) RECORD_BYTES nothing_wrong)
 
   form_written : has_form n (written n h ms) ≡ true
   form_written = well_formed n (written n h ms) (length_written n h ms m few) fixed_written

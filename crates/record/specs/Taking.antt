@@ -2,14 +2,14 @@
 use Rattle.std.specs.Prelude.{ℕ, ◌+◌, ◌^◌, Bool, true, false, cond, not, ◌&&◌, ◌||◌, List, length}
 use Rattle.std.specs.Prelude.{map, is_some, Some, None, Option, Result, ◌==◌, nat_lt, nat_le}
 use Rattle.std.specs.Prelude.{slice_index, slice_index_or}
-use Rattle.std.specs.List.{range_with_len}
+use Rattle.std.specs.List.{list_any, range_with_len}
 use Rattle.std.specs.Int.{w16, w32, w64, from_le_bytes}
 use Rattle.routine.specs.declared.kinds.Kind.{Kind}
 use Rattle.routine.specs.declared.kinds.SignalKind.{SignalKind}
 use Rattle.routine.specs.declared.refusals.Refusal.{Refusal}
 use Rattle.routine.specs.declared.refusals.Refusal.TheVariants.{RecordForm, RecordHead, RecordMarks}
 use Rattle.routine.specs.declared.tables.TheConstants.{MOST_STATEMENTS}
-use Rattle.routine.specs.Search.{lowest, any}
+use Rattle.routine.specs.Search.{lowest}
 use Rattle.routine.specs.Tree.{tree_at}
 use Rattle.signals.specs.Sets.{word_set}
 use Rattle.rules.specs.Rules.{Mark, Idle, Waiting, UnderWay, Done, over}
@@ -42,7 +42,7 @@ abbrev pub is_wrong : ℕ → List ℕ → ℕ → Bool
 is_wrong n bytes i = is_fixed n i && not (slice_index bytes i == slice_index (contents n) i)
 
 unfoldable pub is_fixed_right : ℕ → List ℕ → Bool
-is_fixed_right n bytes = not (any (is_wrong n bytes) RECORD_BYTES)
+is_fixed_right n bytes = not (list_any (is_wrong n bytes) (range_with_len 0 RECORD_BYTES))
 
 unfoldable pub has_form : ℕ → List ℕ → Bool
 has_form n bytes = (length bytes == RECORD_BYTES) && is_fixed_right n bytes

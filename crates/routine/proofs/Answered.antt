@@ -17,6 +17,7 @@ use Rattle.routine.specs.Refusals.{number_of, AnswersOrMemory}
 use Rattle.routine.specs.View.{judged, then_checked, load_of}
 use Rattle.routine.proofs.Checking.{chain, verdict_by, misnamed, misuse, unscope, endlessness}
 
+-- it is a refusal, and no want of memory
 abbrev pub HasNumber : Refusal → Type 0
 HasNumber e = is_some (number_of e) ≡ true
 
@@ -25,6 +26,7 @@ abbrev pub Numbered : {A : Type 0} → Result A Refusal → Type 0
 Numbered (Ok x) = Unit {0}
 Numbered (Err e) = HasNumber e
 
+-- so does what a test finds
 abbrev pub Named : Option Refusal → Type 0
 Named None = Unit {0}
 Named (Some e) = HasNumber e
@@ -68,7 +70,8 @@ headed_numbered : (b : Bool) (r : Result (List SignalKind × List Statement) Ref
 headed_numbered true r h = h
 headed_numbered false r h = refl
 
-pub read_numbered : (bytes : List ℕ) → Numbered (read_of bytes)
+-- reading refuses by a number
+read_numbered : (bytes : List ℕ) → Numbered (read_of bytes)
 read_numbered bytes =
     headed_numbered (headed bytes) (with_signals bytes (signals_from 0 (signal_bytes bytes)))
     (all_numbered bytes (signals_from 0 (signal_bytes bytes))
@@ -98,15 +101,17 @@ checked_numbered (Ok p) h =
     judged_numbered p (check_of p.0 (kinds p.1)) (check_named p.0 (kinds p.1))
 checked_numbered (Err e) h = h
 
+-- loading refuses by a number
 pub load_numbered : (bytes : List ℕ) → Numbered (load_of bytes)
 load_numbered bytes = checked_numbered (read_of bytes) (read_numbered bytes)
 
--- what each answer shows: the value, the refusal, or for want of memory that there is a value
+-- a value that is answered is the definition's
 pub value_said : {A B : Type 0} (d : Result A Refusal) (view : B → A) (x : B)
     → AnswersOrMemory d view (Ok x) → d ≡ Ok (view x)
 value_said (Ok y) view x h = ap Ok (sym h)
 value_said (Err e) view x h = absurd (let z : ◌≡◌ {A = ℕ} 0 1 = cc in omega arith)
 
+-- a refusal with a number is the definition's
 pub refusal_said : {A B : Type 0} (d : Result A Refusal) (view : B → A) (e : Refusal) → HasNumber e
     → AnswersOrMemory d view (Err e) → d ≡ Err e
 refusal_said (Ok y) view e n h =
@@ -115,6 +120,7 @@ refusal_said (Ok y) view e n h =
     omega arith)
 refusal_said (Err f) view e n h = let g : e ≡ f = cc in ap Err (sym g)
 
+-- want of memory is answered only where the definition says a value
 pub something_said : {A B : Type 0} (d : Result A Refusal) (view : B → A) (e : Refusal) → e ≡ Memory
     → Numbered d → AnswersOrMemory d view (Err e)
     → (x : A) × (d ≡ Ok x)

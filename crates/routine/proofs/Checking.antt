@@ -1,5 +1,5 @@
 -- the four tests, one after another
-use Rattle.std.proofs.Common.{◌≡◌, ℕ, true, not, List, length, is_some, None, Option, sym, ap, ◌∙◌}
+use Rattle.std.proofs.Common.{◌≡◌, ℕ, List, length, None, Option, sym, ap, ◌∙◌}
 use Rattle.routine.specs.declared.kinds.SignalKind.{SignalKind}
 use Rattle.routine.specs.declared.kinds.Kind.{Kind}
 use Rattle.routine.specs.declared.refusals.Refusal.{Refusal}
@@ -8,8 +8,8 @@ use Rattle.routine.specs.declared.refusals.Refusal.TheVariants.{EndlessLoop}
 use Rattle.routine.specs.Kinds.{kind_at}
 use Rattle.routine.specs.Search.{lowest}
 use Rattle.routine.specs.Meaning.{is_misnamed, misuses, unscoped, endless, refusing, check_of}
-use Rattle.routine.specs.Meaning.{passes}
 
+-- the first refusal of what the four tests found
 abbrev pub chain : Option ℕ → Option ℕ → Option ℕ → Option ℕ → Option Refusal
 chain a b c d = refusing a Parts
     (refusing b SignalUse (refusing c Scope (refusing d EndlessLoop None)))
@@ -31,6 +31,7 @@ module _ (gs : List SignalKind) (ks : List Kind) where
   abbrev pub endlessness : Option ℕ
   endlessness = lowest (λ i. endless ks (kind_at ks i)) (length ks)
 
+  -- what is found by other means than the definition makes the same verdict
   pub verdict_by : (a b c d : Option ℕ) → a ≡ misnamed → b ≡ misuse → c ≡ unscope → d ≡ endlessness
       → verdict ≡ chain a b c d
   unfolding check_of
@@ -38,6 +39,3 @@ module _ (gs : List SignalKind) (ks : List Kind) where
       ap (λ x. chain x misuse unscope endlessness) (sym p)
       ∙ ap (λ x. chain a x unscope endlessness) (sym q)
       ∙ ap (λ x. chain a b x endlessness) (sym r) ∙ ap (chain a b c) (sym s)
-
-pub passed : (gs : List SignalKind) (ks : List Kind) → check_of gs ks ≡ None → passes gs ks ≡ true
-passed gs ks e = ap (λ o. not (is_some o)) e

@@ -48,6 +48,7 @@ module _ (g n i : ℕ) where
     abbrev said : Option Kind
     said = spelled (get_or bytes 0 0) (get_or bytes 1 0) (get_or bytes 2 0) (get_or bytes 3 0)
 
+    -- a record that is read and fits is one more statement
     pub records_more : (ns : List Statement) (k : Kind) (x : Statement) (m : ℕ) → Some k ≡ said
         → true ≡ fits g n i k → x ≡ fresh k → ns ≡ ms ++ x ∷ [] → m ≡ i + 1
         → after ns (records_from g n m (take (length bytes - 4) (drop 4 bytes))) ≡ all
@@ -73,6 +74,7 @@ onto_ok e (Some x) (Ok ys) xs h =
     record { head = x; tail = ys; here = refl; rest = refl; whole = cc }
 onto_ok e (Some x) (Err d) xs h = absurd (let z : ◌≡◌ {A = ℕ} 0 1 = cc in omega arith)
 
+-- as many signals as bytes
 pub signals_length : (bytes : List ℕ) (i : ℕ) (xs : List SignalKind) → signals_from i bytes ≡ Ok xs
     → length xs ≡ length bytes
 signals_length [] i xs h = let e : xs ≡ [] = cc in ap length e
@@ -93,6 +95,7 @@ module _ (g n : ℕ) where
           ap (λ (y : Statement). fits g n i y.kind) (sym f) ∙ e
       at false e h = absurd (let z : ◌≡◌ {A = ℕ} 0 1 = cc in omega arith)
 
+  -- a statement for every four bytes
   pub records_length : (bytes : List ℕ) (i m : ℕ) (xs : List Statement)
       → records_from g n i bytes ≡ Ok xs → length bytes ≡ 4 * m → length xs ≡ m
   records_length [] i m xs h l = let e : xs ≡ [] = cc in ap length e ∙ omega arith
@@ -104,6 +107,7 @@ module _ (g n : ℕ) where
       let e = records_length rest (i + 1) (m - 1) u.tail u.rest (omega arith) in
       ap length u.whole ∙ omega arith
 
+  -- each statement that is read fits
   pub records_fit : (bytes : List ℕ) (i : ℕ) (xs : List Statement)
       → records_from g n i bytes ≡ Ok xs
       → (k : ℕ) → k < length xs → fits g n (i + k) (kind_at (kinds xs) k) ≡ true

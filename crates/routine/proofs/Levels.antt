@@ -29,6 +29,7 @@ level_past ks n i k e l r =
     let z : k ≡ Nothing = r ∙ get_or-eq_default ks Nothing {n = i} (omega arith) in
     rw z (tt, past ks i (omega arith) (length ks))
 
+-- a statement's parts lie above it, and its tree is one level over theirs
 pub level : (g : ℕ) (ks : List Kind) (n i : ℕ) (k : Kind) → Formed g ks → length ks ≡ n
     → k ≡ kind_at ks i
     → PartsRise n i (shape k) × (tree_at ks i ≡ node i (shape k) (tree_at ks))

@@ -1,26 +1,17 @@
 -- a table's rows, as a list of statements
-use Rattle.std.proofs.Common.{◌≡◌, ℕ, ◌+◌, ◌≤◌, cond, sum_by, take, take_all, zero, suc, refl, List}
-use Rattle.std.proofs.Common.{[], ◌∷◌, length, get_or, sym, ap, ◌∙◌, arith}
+use Rattle.std.proofs.Common.{◌≡◌, ℕ, ◌+◌, ◌≤◌, sum_by, take, take_all, zero, suc, refl, List}
+use Rattle.std.proofs.Common.{length, get_or, sym, ap, ◌∙◌, arith}
 use Rattle.std.proofs.lemmas.List.{get_or-map, length-map}
-use Rattle.std.specs.List.{count_by}
-use Rattle.std.proofs.lemmas.List.Sums.{sum_by_more, sum_by-cons}
+use Rattle.std.proofs.lemmas.List.Sums.{sum_by_more}
 use Rattle.routine.specs.declared.kinds.Kind.{Kind}
 use Rattle.routine.specs.declared.kinds.Kind.TheVariants.{Nothing}
-use Rattle.routine.specs.declared.kinds.SignalKind.{SignalKind}
 use Rattle.routine.specs.declared.kinds.Statement.{Statement}
 use Rattle.routine.specs.Kinds.{kinds, kind_at, shape, fresh}
-use Rattle.routine.specs.Meaning.{names, named, same, how_many}
+use Rattle.routine.specs.Meaning.{names, named}
 
+-- a statement has one kind
 pub kinds_length : (ss : List Statement) (n : ℕ) → n ≡ length ss → length (kinds ss) ≡ n
 kinds_length ss n e = length-map ss (λ (y : Statement). y.kind) ∙ sym e
-
--- signals of one kind, counted
-pub many_counted : (k : SignalKind) (gs : List SignalKind)
-    → count_by (λ g. same g k) gs ≡ how_many k gs
-many_counted k [] = refl
-many_counted k (g ∷ gs) =
-    sum_by-cons (λ x. cond (same x k) 1 0) g gs
-    ∙ ap (λ (n : ℕ). cond (same g k) 1 0 + n) (many_counted k gs)
 
 -- how often a statement is named, summed over the rows
 module _ (ss : List Statement) (a : ℕ) where
@@ -37,6 +28,7 @@ module _ (ss : List Statement) (a : ℕ) where
       let f = ap (λ (x : Kind). names (shape x) a) k in
       rw e (sum_by_more by_row ss n (fresh Nothing) l ∙ omega (arith, f, h))
 
+  -- the sum over all rows is how often the statement is named
   pub named_sum : sum_by by_row ss ≡ named (kinds ss) (length (kinds ss)) a
   named_sum =
       sym (ap (sum_by by_row) (take_all (length ss) ss (omega arith)))

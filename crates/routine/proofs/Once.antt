@@ -67,6 +67,7 @@ module _ (ks : List Kind) (S : Rising ks) (O : Once ks) where
       let z = names_some (shape_at ks j) a g in
       omega arith
 
+  -- a part has one owner
   pub one_owner : (i j a : ℕ) → i < length ks → j < length ks → Part (shape_at ks i) a
       → Part (shape_at ks j) a → i ≡ j
   one_owner i j a l m h g = let x = not_before i j a l m h g in let y = not_before j i a m l g h in
@@ -127,6 +128,7 @@ module _ (ks : List Kind) (S : Rising ks) (O : Once ks) where
       let g : Part (shape_at ks i) b = rw e (inr refl) in
       apart i a b j l h g (other_parts i l k a b e) u v
 
+  -- no number is twice in a tree
   pub distinct : (i : ℕ) → i < length ks → Distinct (tree_at ks i)
   distinct = trees ks S (λ i t. Distinct t)
       (λ i l g. at_shape i (shape_at ks i) refl (λ a h. (S i l a h).1) (λ a. not_above i a l)
@@ -180,25 +182,26 @@ at_least (leaf n k) i h = grind arith
 at_least (one n k p) i h = let g = at_least p i in grind arith
 at_least (two n k p q) i h = let g = at_least p i in let f = at_least q i in grind arith
 
--- the sum of f below n
-abbrev sum : (ℕ → ℕ) → ℕ → ℕ
-sum f zero = 0
-sum f (suc n) = f n + sum f n
+-- the sum of f over the numbers below n
+abbrev sum_below : (ℕ → ℕ) → ℕ → ℕ
+sum_below f zero = 0
+sum_below f (suc n) = f n + sum_below f n
 
-sum_plus : (f g h : ℕ → ℕ) → ((i : ℕ) → f i ≡ g i + h i) → (n : ℕ) → sum f n ≡ sum g n + sum h n
+sum_plus : (f g h : ℕ → ℕ) → ((i : ℕ) → f i ≡ g i + h i) → (n : ℕ)
+    → sum_below f n ≡ sum_below g n + sum_below h n
 sum_plus f g h e zero = refl
 sum_plus f g h e (suc n) = let a = e n in let b = sum_plus f g h e n in omega arith
 
-sum_ones : (f : ℕ → ℕ) (n : ℕ) → ((i : ℕ) → i < n → f i ≡ 1) → sum f n ≡ n
+sum_ones : (f : ℕ → ℕ) (n : ℕ) → ((i : ℕ) → i < n → f i ≡ 1) → sum_below f n ≡ n
 sum_ones f zero h = refl
 sum_ones f (suc n) h = let a = h n (omega arith) in
     let b = sum_ones f n (λ i l. h i (omega arith)) in omega arith
 
-sum_none : (m n : ℕ) → n ≤ m → sum (λ i. cond (eqb i m) 1 0) n ≡ 0
+sum_none : (m n : ℕ) → n ≤ m → sum_below (λ i. cond (eqb i m) 1 0) n ≡ 0
 sum_none m zero h = refl
 sum_none m (suc n) h = let a = sum_none m n (omega arith) in grind arith
 
-sum_one : (m n : ℕ) → m < n → sum (λ i. cond (eqb i m) 1 0) n ≡ 1
+sum_one : (m n : ℕ) → m < n → sum_below (λ i. cond (eqb i m) 1 0) n ≡ 1
 sum_one m zero h = absurd (omega arith)
 sum_one m (suc n) h =
     elim (ℕ_discrete n m) [
@@ -206,7 +209,7 @@ sum_one m (suc n) h =
       | no d ↦ let a = sum_one m n (omega arith) in grind arith
     ]
 
-total : (t : Tree) (n : ℕ) → ((i : ℕ) → In t i → i < n) → sum (occurs t) n ≡ size t
+total : (t : Tree) (n : ℕ) → ((i : ℕ) → In t i → i < n) → sum_below (occurs t) n ≡ size t
 total (leaf m k) n h = sum_one m n (h m refl)
 total (one m k p) n h =
     let a = sum_plus (occurs (one m k p)) (λ i. cond (eqb i m) 1 0) (occurs p) (λ i. refl) n in
@@ -239,6 +242,7 @@ module _ (ks : List Kind) (S : Rising ks) (O : Once ks) (z : 0 < length ks) wher
             (λ h. let b = under_below ks S z (in_under ks S 0 z i h) in omega arith) in grind arith
       ]
 
+  -- the tree has as many statements as the table
   pub whole_size : size (tree_at ks 0) ≡ length ks
   whole_size =
       sym (total (tree_at ks 0) (length ks) (λ i h. (under_below ks S z (in_under ks S 0 z i h)).1))

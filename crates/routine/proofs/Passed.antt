@@ -26,6 +26,7 @@ nothing_found : (o : Option ℕ) (why : ℕ → Refusal) (later : Option Refusal
 nothing_found None why later h = (refl, h)
 nothing_found (Some i) why later h = absurd (grind arith)
 
+-- a table that passes passed each test
 pub tested : (gs : List SignalKind) (ks : List Kind) → passes gs ks ≡ true → Tested gs ks
 unfolding check_of
 tested gs ks h =
@@ -41,5 +42,6 @@ tested gs ks h =
       loops = none_below (λ i. endless ks (kind_at ks i)) n d.0;
     }
 
+-- so each statement but the first is named once
 pub once : (gs : List SignalKind) (ks : List Kind) → passes gs ks ≡ true → Once ks
 once gs ks h a b l = let p = (tested gs ks h).parts a l in grind arith

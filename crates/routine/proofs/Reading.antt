@@ -41,10 +41,12 @@ module _
       (ap (records_from g n 0) (sym last_part) ∙ s))
 
   module _ (gs : List SignalKind) (s : signals_from 0 xs ≡ Ok gs) where
+    -- a bad record refuses the table
     pub bad_record : (x : Refusal) → records_from g n 0 ys ≡ Err x → read_of bytes ≡ Err x
     bad_record x t = opened (Ok gs) s ∙ ap (with_statements gs) (stated (Err x) t)
 
     module _ (ss : List Statement) (t : records_from g n 0 ys ≡ Ok ss) where
+      -- good signals and statements are the table
       pub good : read_of bytes ≡ Ok (gs, ss)
       good = opened (Ok gs) s ∙ ap (with_statements gs) (stated (Ok ss) t)
 

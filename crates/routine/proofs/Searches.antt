@@ -1,16 +1,12 @@
--- a search that goes up from 0
-use Rattle.std.proofs.Common.{get_or, ◌∙◌, ◌≡◌, ℕ, zero, suc, ◌<◌, Bool, true, false, List, is_some}
-use Rattle.std.proofs.Common.{Some, None, Option, MatchOption, ◌≤◌, sym, refl, ap, subst, ap₂}
-use Rattle.std.proofs.Common.{arith}
+-- searches that go up from 0
+use Rattle.std.proofs.Common.{◌≡◌, ℕ, zero, suc, ◌<◌, ◌≤◌, Bool, true, false, Some, None, Option}
+use Rattle.std.proofs.Common.{MatchOption, get_or, refl, sym, ap₂, ◌∙◌, subst, arith}
 use native.Mathlib.Decide.{ℕ_discrete}
-use Rattle.std.specs.List.{range_with_len, IsAnyAnswer, FoldsTo}
-use Rattle.std.specs.declared.ops.Range.{Range}
-use Rattle.std.specs.Fn.{Mut, Called}
-use Rattle.std.specs.Iterator.{YieldsThen}
-use Rattle.std.proofs.iter.Yields.{nat_range_steps}
-use Rattle.std.proofs.lemmas.Iterator.{cases_from_any, YieldsList-from_range}
+use Rattle.std.specs.List.{list_any, range_with_len}
+use Rattle.std.proofs.lemmas.Bool.{false_from_ne_true, true≢false}
+use Rattle.std.proofs.lemmas.List.Folds.{Any-from_list_any, list_any_at, list_any_none}
 use Rattle.std.proofs.lemmas.List.FromFn.{length-range_with_len, get_or-range_with_len}
-use Rattle.routine.specs.Search.{or_last, lowest, any, FindsLowest}
+use Rattle.routine.specs.Search.{or_last, lowest, FindsLowest}
 
 -- nothing is found where P holds of no number
 pub lowest_none : (P : ℕ → Bool) (n : ℕ) → ((k : ℕ) → k < n → P k ≡ false) → lowest P n ≡ None
@@ -19,6 +15,7 @@ lowest_none P (suc n) h =
     ap₂ (λ (o : Option ℕ) (b : Bool). or_last o b n) (lowest_none P n (λ k l. h k (omega arith)))
     (h n (omega arith))
 
+-- the first number that P holds of is found
 pub lowest_here : (P : ℕ → Bool) (n i : ℕ) → lowest P i ≡ None → P i ≡ true → i < n
     → lowest P n ≡ Some i
 lowest_here P zero i h e l = absurd (omega arith)
@@ -48,31 +45,41 @@ next_found P n None false e h =
       | no d ↦ h k (omega arith)
     ]
 
+-- the search finds such a number or none
 pub found : (P : ℕ → Bool) (n : ℕ) → Found P n (lowest P n)
 found P zero = λ k l. absurd (omega arith)
 found P (suc n) = next_found P n (lowest P n) (P n) refl (found P n)
 
+-- where nothing is found, P holds of no number below the bound
 pub none_below : (P : ℕ → Bool) (n : ℕ) → lowest P n ≡ None → (k : ℕ) → k < n → P k ≡ false
 none_below P n h = subst (Found P n) h (found P n)
 
-some_found : (P : ℕ → Bool) (n k : ℕ) (o : Option ℕ) → o ≡ lowest P n → k < n → P k ≡ true
-    → is_some o ≡ true
-some_found P n k (Some i) e l h = refl
-some_found P n k None e l h = let f = none_below P n (sym e) k l in absurd (grind arith)
+-- number k of those from 0 on is k
+nth : (n k d : ℕ) → k < n → get_or (range_with_len 0 n) k d ≡ k
+nth n k d l = get_or-range_with_len 0 n k d l ∙ omega arith
 
-nth : (n k : ℕ) → k < n → get_or (range_with_len 0 n) k 0 ≡ k
-nth n k l = get_or-range_with_len 0 n k 0 l ∙ omega arith
+-- some number below n passes the test
+pub some_passes : (P : ℕ → Bool) (n : ℕ) → list_any P (range_with_len 0 n) ≡ true
+    → (k : ℕ) × (k < n) × (P k ≡ true)
+some_passes P n h =
+    let a = Any-from_list_any P (range_with_len 0 n) h in
+    let l : a.0 < n = omega (arith, a.2, length-range_with_len 0 n) in
+    (a.0, l, subst (λ j. P j ≡ true) (sym a.3 ∙ nth n a.0 a.1 l) a.4)
 
--- `any` over a range from 0, by a test that answers as P does
-pub any_is : (P : ℕ → Bool) (n : ℕ) (b : Bool) → IsAnyAnswer (λ k a. P k ≡ a) (range_with_len 0 n) b
-    → b ≡ any P n
-any_is P n true h =
-    let l : h.0 < n = rw (← length-range_with_len 0 n) h.1 in
-    sym (some_found P n h.0 (lowest P n) refl l (subst (λ j. P j ≡ true) (nth n h.0 l) (h.2 0)))
-any_is P n false h =
-    sym (ap is_some (lowest_none P n
-    (λ k l. subst (λ j. P j ≡ false) (nth n k l)
-    (h k 0 (omega arith) (rw (length-range_with_len 0 n) l)))))
+-- no number below n passes it
+pub none_passes : (P : ℕ → Bool) (n : ℕ) → list_any P (range_with_len 0 n) ≡ false → (k : ℕ) → k < n
+    → P k ≡ false
+none_passes P n h k l =
+    false_from_ne_true (P k) (λ e. true≢false (sym (list_any_at P (range_with_len 0 n) k 0
+    (rw (length-range_with_len 0 n) l) (subst (λ j. P j ≡ true) (sym (nth n k 0 l)) e)) ∙ h))
+
+-- the converse of `none_passes`
+pub list_any-none_passes : (P : ℕ → Bool) (n : ℕ) → ((k : ℕ) → k < n → P k ≡ false)
+    → list_any P (range_with_len 0 n) ≡ false
+list_any-none_passes P n h =
+    list_any_none P (range_with_len 0 n)
+    (λ k d l. let m : k < n = rw (← length-range_with_len 0 n) l in
+    subst (λ j. P j ≡ false) (sym (nth n k d m)) (h k m))
 
 -- what `find` over a range from 0 says
 pub finds : (says : ℕ → Bool → Type 0) (n m : ℕ) (r : Option ℕ) → n ≡ m
@@ -91,15 +98,3 @@ lowest_by P {n} {r = Some i} h f =
     let l = h.some.0 in
     sym (lowest_here P n i (lowest_none P i (λ k m. sym (f k false (omega arith) (h.some.2 k m))))
     (sym (f i true l h.some.1)) l)
-
--- `any` over a range from 0 by a closure that answers as P does
-pub any_by : {F : Type 0} {g : Mut F (ℕ × Unit {0}) Bool} {s u : Range ℕ} {f : F} {r : Bool}
-    (P : ℕ → Bool) (n m : ℕ) → s ≡ record { start = 0; end = n } → n ≡ m
-    → (xs : List ℕ) × (o : Option ℕ) × (j : F) × YieldsThen nat_range_steps s xs o u
-    × FoldsTo (λ p x q. Called g p (x, tt) false q) f xs j
-    × MatchOption o (r ≡ false) (λ x. (r ≡ true) × ((h : F) × Called g j (x, tt) true h))
-    → ((x : ℕ) (q : F) → Called g f (x, tt) true q → P x ≡ true)
-    → ((x : ℕ) (q : F) → Called g f (x, tt) false q → (q ≡ f) × (P x ≡ false)) → r ≡ any P m
-any_by {u = u} {f = f} {r = r} P n m e i ran t z =
-    any_is P m r (cases_from_any u f r (λ j. P j ≡ true) (λ j. P j ≡ false) ran
-    (YieldsList-from_range 0 n m e (omega arith)) t z)

@@ -21,6 +21,7 @@ fits_rises : (g n i : ℕ) (k : Kind) → fits g n i k ≡ true → (a : ℕ) �
     → (i < a) × (a < n)
 fits_rises g n i k h a p = grind arith
 
+-- in a table that has its form, parts lie above their statement
 pub rising : (g : ℕ) (ks : List Kind) → Formed g ks → Rising ks
 rising g ks f i l a p = fits_rises g (length ks) i (kind_at ks i) (f i l) a p
 
@@ -30,11 +31,13 @@ In (leaf n k) i = i ≡ n
 In (one n k p) i = (i ≡ n) ⊎ In p i
 In (two n k p q) i = (i ≡ n) ⊎ (In p i ⊎ In q i)
 
+-- the test and the fact: a number of the tree is contained in it
 pub contains_in : (t : Tree) (i : ℕ) → contains t i ≡ true → In t i
 contains_in (leaf n k) i h = grind arith
 contains_in (one n k p) i h = let g = contains_in p i in grind arith
 contains_in (two n k p q) i h = let g = contains_in p i in let f = contains_in q i in grind arith
 
+-- and the other way round
 pub in_contains : (t : Tree) (i : ℕ) → In t i → contains t i ≡ true
 in_contains (leaf n k) i h = grind arith
 in_contains (one n k p) i h = let g = in_contains p i in grind arith
@@ -52,6 +55,7 @@ pub data Under (ks : List Kind) (i : ℕ) : ℕ → Type 0 where
   part : {j a : ℕ} → Under ks i j → Part (shape_at ks j) a → Under ks i a
 
 module _ (ks : List Kind) (S : Rising ks) where
+  -- more fuel gives the same tree
   pub fuel : (f g i : ℕ) → i < length ks → length ks ≤ i + f → length ks ≤ i + g
       → tree ks f i ≡ tree ks g i
   unfolding tree
@@ -61,6 +65,7 @@ module _ (ks : List Kind) (S : Rising ks) where
       node_same i (shape_at ks i) (tree ks f) (tree ks g)
       (λ p h. let u = S i l p h in fuel f g p u.1 (omega arith) (omega arith))
 
+  -- a statement's tree is one level over those of its parts
   pub unroll : (i : ℕ) → i < length ks → tree_at ks i ≡ node i (shape_at ks i) (tree_at ks)
   unfolding tree tree_at
   unroll i l = fuel (length ks) (suc (length ks)) i l (omega arith) (omega arith)
@@ -81,15 +86,18 @@ module _ (ks : List Kind) (S : Rising ks) where
       climb (λ i. P i (tree_at ks i)) (λ i l g. subst (P i) (sym (unroll i l)) (h i l g))
       (length ks) i l (omega arith)
 
+  -- what is under a statement has no lower number
   pub under_below : {i j : ℕ} → i < length ks → Under ks i j → (i ≤ j) × (j < length ks)
   under_below l self = (omega arith, l)
   under_below l (part {j = j} {a = a} u h) = let g = under_below l u in let s = S j g.1 a h in
       (omega arith, s.1)
 
+  -- what is under a part is under the statement
   pub under_first : {i a j : ℕ} → Part (shape_at ks i) a → Under ks a j → Under ks i j
   under_first h self = part self h
   under_first h (part u g) = part (under_first h u) g
 
+  -- what is under what is under a statement is under it
   pub under_trans : {i j m : ℕ} → Under ks i j → Under ks j m → Under ks i m
   under_trans u self = u
   under_trans u (part v h) = part (under_trans u v) h
@@ -147,6 +155,7 @@ module _ (ks : List Kind) (S : Rising ks) where
       at_shape i j a (two_parts k p q) x f g e (inr (inl h)) = inr (inl (g p (inl refl) h))
       at_shape i j a (two_parts k p q) x f g e (inr (inr h)) = inr (inr (g q (inr refl) h))
 
+  -- what is under a statement is a number of its tree
   pub under_in : {i j : ℕ} → i < length ks → Under ks i j → In (tree_at ks i) j
   under_in {i = i} l self = root_in i l
   under_in {i = i} l (part {j = j} {a = a} u h) = in_grows i l j a (under_in l u) h

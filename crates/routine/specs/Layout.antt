@@ -1,6 +1,6 @@
 -- the form of a table: which bytes are one, and what they say
 use Rattle.std.specs.Prelude.{◌≡◌, ℕ, ◌+◌, ◌*◌, ◌<◌, Bool, true, cond, ◌&&◌, List, [], ◌∷◌, length}
-use Rattle.std.specs.Prelude.{take, drop, Some, None, Ok, Err, Option, Result, MatchResult, ◌==◌}
+use Rattle.std.specs.Prelude.{take, drop, Some, None, Ok, Err, Option, Result, ◌==◌}
 use Rattle.std.specs.Prelude.{nat_le, nat_lt, slice_index}
 use Rattle.routine.specs.declared.kinds.SignalKind.{SignalKind}
 use Rattle.routine.specs.declared.kinds.SignalKind.TheVariants.{Input, Output, Local as Own}
@@ -8,8 +8,8 @@ use Rattle.routine.specs.declared.kinds.Kind.{Kind}
 use Rattle.routine.specs.declared.kinds.Kind.TheVariants.{Nothing, Stop, Emit, Wait, Sequence}
 use Rattle.routine.specs.declared.kinds.Kind.TheVariants.{Parallel, Loop, When, Kill, Local}
 use Rattle.routine.specs.declared.kinds.Statement.{Statement}
-use Rattle.routine.specs.declared.kinds.UnknownSignal.{UnknownSignal}
-use Rattle.routine.specs.declared.kinds.UnknownStatement.{UnknownStatement}
+use Rattle.routine.specs.declared.tables.TheConstants.{CONTENTS_BYTES, STATEMENT_BYTES}
+use Rattle.routine.specs.declared.tables.TheConstants.{MOST_SIGNALS, MOST_STATEMENTS}
 use Rattle.routine.specs.declared.refusals.Refusal.{Refusal}
 use Rattle.routine.specs.declared.refusals.Refusal.TheVariants.{TableForm}
 use Rattle.routine.specs.declared.refusals.Refusal.TheVariants.{SignalKind as BadSignalKind}
@@ -30,13 +30,14 @@ statement_count bytes = word bytes 6
 -- the contents and the length are those of a table
 abbrev pub headed : List ℕ → Bool
 headed bytes =
-    nat_le 8 (length bytes)
-    && (word bytes 0 == 8
-    && (nat_le (signal_count bytes) 64
-    && (word bytes 4 == 8 + signal_count bytes
+    nat_le CONTENTS_BYTES (length bytes)
+    && (word bytes 0 == CONTENTS_BYTES
+    && (nat_le (signal_count bytes) MOST_SIGNALS
+    && (word bytes 4 == CONTENTS_BYTES + signal_count bytes
     && (nat_le 1 (statement_count bytes)
-    && (nat_le (statement_count bytes) 256
-    && length bytes == 8 + signal_count bytes + 4 * statement_count bytes)))))
+    && (nat_le (statement_count bytes) MOST_STATEMENTS
+    && length bytes
+    == CONTENTS_BYTES + signal_count bytes + STATEMENT_BYTES * statement_count bytes)))))
 
 -- what a byte says of a signal
 abbrev pub signal_kind : ℕ → Option SignalKind
@@ -57,18 +58,9 @@ spelled k s a b =
     (cond (k == 8 && b == 0) (Some (Kill s a))
     (cond (k == 9 && b == 0) (Some (Local s a)) None)))))))))
 
--- what a conversion answers: the signal kind or the statement that the bytes say, or the bytes that
--- say none
-abbrev pub SaysSignal : ℕ → Result SignalKind UnknownSignal → Type 0
-SaysSignal b r = MatchResult r (λ k. signal_kind b ≡ Some k)
-    (λ e. (signal_kind b ≡ None) × (e.0 ≡ b))
-
+-- and what a record of four bytes does
 abbrev pub said_by : List ℕ → Option Kind
 said_by r = spelled (slice_index r 0) (slice_index r 1) (slice_index r 2) (slice_index r 3)
-
-abbrev pub SaysStatement : List ℕ → Result Kind UnknownStatement → Type 0
-SaysStatement bs r = MatchResult r (λ k. said_by bs ≡ Some k)
-    (λ e. (said_by bs ≡ None) × (e.0 ≡ bs))
 
 -- a can be a part of statement i, of n
 abbrev pub rises : ℕ → ℕ → ℕ → Bool
@@ -114,10 +106,10 @@ records_from g n i (k ∷ (s ∷ (a ∷ (b ∷ rest)))) =
     onto (StatementRecord i) (fitting g n i (spelled k s a b)) (records_from g n (i + 1) rest)
 
 abbrev pub signal_bytes : List ℕ → List ℕ
-signal_bytes bytes = take (signal_count bytes) (drop 8 bytes)
+signal_bytes bytes = take (signal_count bytes) (drop CONTENTS_BYTES bytes)
 
 abbrev pub record_bytes : List ℕ → List ℕ
-record_bytes bytes = drop (8 + signal_count bytes) bytes
+record_bytes bytes = drop (CONTENTS_BYTES + signal_count bytes) bytes
 
 abbrev pub with_statements : List SignalKind → Result (List Statement) Refusal
     → Result (List SignalKind × List Statement) Refusal

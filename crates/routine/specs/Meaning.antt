@@ -1,6 +1,7 @@
 -- the tests of a table's meaning; each holds of the statements that fail
-use Rattle.std.specs.Prelude.{ℕ, zero, suc, ◌+◌, Bool, true, false, cond, not, ◌&&◌, List, [], ◌∷◌}
+use Rattle.std.specs.Prelude.{ℕ, zero, suc, ◌+◌, Bool, true, false, cond, not, ◌&&◌, List}
 use Rattle.std.specs.Prelude.{length, is_some, Some, None, Option, ◌==◌, slice_index_or}
+use Rattle.std.specs.List.{list_any, range_with_len}
 use Rattle.routine.specs.declared.kinds.SignalKind.{SignalKind}
 use Rattle.routine.specs.declared.kinds.SignalKind.TheVariants.{Input, Output, Local as Own}
 use Rattle.routine.specs.declared.kinds.Kind.{Kind}
@@ -9,7 +10,7 @@ use Rattle.routine.specs.declared.kinds.Kind.TheVariants.{Parallel, Loop, When, 
 use Rattle.routine.specs.declared.refusals.Refusal.{Refusal}
 use Rattle.routine.specs.declared.refusals.Refusal.TheVariants.{Parts, SignalUse, Scope}
 use Rattle.routine.specs.declared.refusals.Refusal.TheVariants.{EndlessLoop}
-use Rattle.routine.specs.Search.{lowest, any}
+use Rattle.routine.specs.Search.{lowest}
 use Rattle.routine.specs.Kinds.{Shape, no_part, one_part, two_parts, kind_at, shape_at}
 use Rattle.routine.specs.Tree.{tree_at, inside, can_end}
 
@@ -50,11 +51,6 @@ same Own Input = false
 same Own Output = false
 same Own Own = true
 
--- how many signals of a kind there are
-abbrev pub how_many : SignalKind → List SignalKind → ℕ
-how_many k [] = 0
-how_many k (g ∷ gs) = cond (same g k) 1 0 + how_many k gs
-
 abbrev pub signal_at : List SignalKind → ℕ → SignalKind
 signal_at gs s = slice_index_or gs s Input
 
@@ -90,7 +86,7 @@ encloses ks s i j = declares (kind_at ks j) s && inside (tree_at ks j) i
 
 -- statement i lies inside a local statement of s
 abbrev pub in_scope : List Kind → ℕ → ℕ → Bool
-in_scope ks s i = any (encloses ks s i) (length ks)
+in_scope ks s i = list_any (encloses ks s i) (range_with_len 0 (length ks))
 
 -- a signal that is local, used outside its scope
 abbrev pub is_out_of_scope : List SignalKind → List Kind → ℕ → ℕ → Bool
@@ -107,7 +103,7 @@ unscoped gs ks i (Parallel a b) = false
 unscoped gs ks i (Loop a) = false
 unscoped gs ks i (When s a b) = is_out_of_scope gs ks i s
 unscoped gs ks i (Kill s a) = is_out_of_scope gs ks i s
-unscoped gs ks i (Local s a) = any (λ j. declares (kind_at ks j) s) i
+unscoped gs ks i (Local s a) = list_any (λ j. declares (kind_at ks j) s) (range_with_len 0 i)
 
 -- a loop whose first can end at once
 abbrev pub endless : List Kind → Kind → Bool

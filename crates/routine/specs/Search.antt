@@ -1,5 +1,5 @@
 -- searches below a bound
-use Rattle.std.specs.Prelude.{ℕ, zero, suc, ◌<◌, Bool, true, false, cond, is_some, Some, None}
+use Rattle.std.specs.Prelude.{ℕ, zero, suc, ◌<◌, Bool, true, false, cond, Some, None}
 use Rattle.std.specs.Prelude.{IfNone, IfSome, Option}
 
 abbrev pub or_last : Option ℕ → Bool → ℕ → Option ℕ
@@ -10,10 +10,6 @@ or_last (Some i) b n = Some i
 abbrev pub lowest : (ℕ → Bool) → ℕ → Option ℕ
 lowest P zero = None
 lowest P (suc n) = or_last (lowest P n) (P n) n
-
--- P holds of some number below n
-abbrev pub any : (ℕ → Bool) → ℕ → Bool
-any P n = is_some (lowest P n)
 
 -- what a search below n found, by a test that `says` yes or no of each number: the lowest yes, or
 -- no of all

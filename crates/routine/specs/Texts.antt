@@ -1,6 +1,5 @@
 -- what is written of statements and refusals
-use Rattle.std.specs.Prelude.{ℕ, List, [], ◌∷◌, ◌++◌, Some, None, codes, decimal, slice_index}
-use Rattle.std.specs.Prelude.{Option}
+use Rattle.std.specs.Prelude.{ℕ, List, [], ◌∷◌, ◌++◌, Some, None, codes, decimal, Option}
 use Rattle.routine.specs.declared.kinds.Kind.{Kind}
 use Rattle.routine.specs.declared.kinds.Kind.TheVariants.{Nothing, Stop, Emit, Wait, Sequence}
 use Rattle.routine.specs.declared.kinds.Kind.TheVariants.{Parallel, Loop, When, Kill, Local}
@@ -61,12 +60,14 @@ abbrev pub wording_of : Refusal → List ℕ
 wording_of TableForm = codes "the contents or the length are not those of a table"
 wording_of (SignalKind s) = codes "its kind is above 2"
 wording_of (StatementRecord i) =
-    codes "an unknown kind, an unused field that is not 0, a signal that is not there, or a part that is not above it"
+    codes "an unknown kind, an unused field that is not 0, a signal that is not there, "
+    ++ codes "or a part that is not above it and below the number of statements"
 wording_of (Parts i) = codes "it is not named as a part exactly once"
 wording_of (SignalUse i) =
     codes "an emit of an input, or a local statement whose signal is not local"
 wording_of (Scope i) =
-    codes "a local signal outside its local statement, or a local statement with the signal of a lower one"
+    codes "a local signal outside its local statement, "
+    ++ codes "or a local statement with the signal of a lower one"
 wording_of (EndlessLoop i) = codes "a loop whose first part can end at once"
 wording_of AlreadyOpen = codes "an instant is open already"
 wording_of AlreadyOver = codes "the routine is over"
@@ -90,14 +91,3 @@ about (Some subject) p words = subject ++ (codes " " ++ (decimal p ++ (codes ": 
 -- a refusal in plain words
 abbrev pub reason_text : Refusal → List ℕ
 reason_text e = about (subject_of e) (place_of e) (wording_of e)
-
--- a byte that is no kind of signal, and a record that is no statement
-abbrev pub unknown_signal_text : ℕ → List ℕ
-unknown_signal_text b = codes "no kind of signal has the byte " ++ decimal b
-
-abbrev pub unknown_statement_text : List ℕ → List ℕ
-unknown_statement_text r =
-    codes "no statement is "
-    ++ (decimal (slice_index r 0)
-    ++ (codes " " ++ (decimal (slice_index r 1)
-    ++ (codes " " ++ (decimal (slice_index r 2) ++ (codes " " ++ decimal (slice_index r 3)))))))

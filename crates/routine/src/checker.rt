@@ -1,7 +1,8 @@
-ghost use Rattle.std.specs.Prelude.{◌≡◌, ℕ, ◌+◌, ◌*◌, ◌<◌, ◌≤◌, true, false, length};
-ghost use Rattle.routine.specs.Search.{any, FindsLowest};
-ghost use Rattle.routine.specs.Kinds.{shape, kind_at, shape_at};
-ghost use Rattle.routine.specs.Tree.{node, tree_at, contains, inside, can_end};
+ghost use Rattle.std.specs.Prelude.{◌≡◌, ◌≤◌, length};
+ghost use Rattle.std.specs.List.{list_any, range_with_len};
+ghost use Rattle.routine.specs.Search.{FindsLowest};
+ghost use Rattle.routine.specs.Kinds.{shape, kind_at};
+ghost use Rattle.routine.specs.Tree.{tree_at, contains, inside, can_end};
 ghost use Rattle.routine.specs.Meaning.{names, named, is_misnamed, signal_at, misuses, declares};
 ghost use Rattle.routine.specs.Meaning.{encloses, in_scope, unscoped, endless, check_of};
 ghost use Rattle.routine.specs.View.{Checks};
@@ -106,7 +107,8 @@ impl Rows<'_> {
 
     // Is a statement below i a local statement of the signal?
     fn declared_before(&self, signal: u8, i: usize) -> bool
-        ensures { result ≡ any (λ j. declares (kind_at (lent_kinds self.now) j) signal) i }
+        ensures { result ≡ list_any (λ j. declares (kind_at (lent_kinds self.now) j) signal)
+            (range_with_len 0 i) }
     {
         (0..i).any(|j| self.declares(j, signal))
     }
@@ -167,6 +169,7 @@ impl Rows<'_> {
     {
         (0..self.count()).find(|&i| fails(i))
     }
+
     // The first refusal that applies, if there is one.
     pub(crate) fn fault(&self) -> Option<Refusal>
         ensures { result ≡ check_of (lent_signals self.now) (lent_kinds self.now) }
@@ -187,7 +190,8 @@ impl Rows<'_> {
     }
 }
 
-// The routine that the table is, or the first refusal that applies.
+/// The routine that the table is, or the first refusal that applies of `Parts`, `SignalUse`,
+/// `Scope` and `EndlessLoop`, each test over the whole table. It asks for no memory.
 pub fn check(table: Table) -> Result<Routine, Refusal>
     ensures { Checks table result }
 {

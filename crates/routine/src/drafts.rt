@@ -6,7 +6,7 @@ ghost use Rattle.routine.specs.Layout.{Formed};
 use crate::kinds::{SignalKind, Statement};
 use crate::refusals::Refusal;
 use crate::rows::Rows;
-use crate::tables::Table;
+use crate::tables::{MOST_SIGNALS, MOST_STATEMENTS, Table};
 use arrayvec::ArrayVec;
 use std::alloc::Global;
 
@@ -14,8 +14,8 @@ use std::alloc::Global;
 // of it hides no refusal.
 #[derive(Debug, Drop)]
 pub(crate) struct Draft {
-    pub(crate) signals: ArrayVec<SignalKind, 64>,
-    pub(crate) statements: ArrayVec<Statement, 256>,
+    pub(crate) signals: ArrayVec<SignalKind, MOST_SIGNALS>,
+    pub(crate) statements: ArrayVec<Statement, MOST_STATEMENTS>,
     ghost some: { 1 ≤ array_vec_len statements },
     ghost formed: { Formed (length signals.items) (kinds statements.items) },
 }

@@ -1,51 +1,38 @@
 ghost use Rattle.std.specs.Prelude.{◌≡◌, Some};
 ghost use Rattle.routine.specs.Kinds.{fresh};
-ghost use Rattle.routine.specs.Layout.{SaysSignal, SaysStatement};
-ghost use Rattle.routine.specs.Texts.{kind_text, unknown_signal_text, unknown_statement_text};
+ghost use Rattle.routine.specs.Layout.{signal_kind, said_by};
+ghost use Rattle.routine.specs.Texts.{kind_text};
 
-use std::error::Error;
 use std::fmt;
 
-// Who raises a signal: the world outside, the routine for the outside, or the routine for itself.
+/// Who raises a signal.
 #[derive(Clone, Copy, Debug, Default, PartialEq, Eq)]
 pub enum SignalKind {
+    /// The world outside raises it.
     #[default]
     Input,
+    /// The routine raises it for the world outside.
     Output,
+    /// The routine raises it for itself.
     Local,
 }
 
-// A byte that names no kind of signal.
-#[derive(Clone, Copy, Debug, PartialEq, Eq)]
-pub struct UnknownSignal(pub u8);
-
-impl TryFrom<u8> for SignalKind {
-    type Error = UnknownSignal;
-
-    ghost try_from_gives = { SaysSignal };
-
-    fn try_from(byte: u8) -> Result<Self, UnknownSignal> {
+impl SignalKind {
+    /// The kind of signal that a byte of a table says, `None` where it says none.
+    pub fn from_byte(byte: u8) -> Option<Self>
+        ensures { result ≡ signal_kind byte }
+    {
         match byte {
-            0 => Ok(SignalKind::Input),
-            1 => Ok(SignalKind::Output),
-            2 => Ok(SignalKind::Local),
-            _ => Err(UnknownSignal(byte)),
+            0 => Some(SignalKind::Input),
+            1 => Some(SignalKind::Output),
+            2 => Some(SignalKind::Local),
+            _ => None,
         }
     }
 }
 
-impl fmt::Display for UnknownSignal {
-    ghost output = { λ e. Some (unknown_signal_text e.0) };
-
-    fn fmt<W: fmt::Write>(&self, f: &mut fmt::Formatter<W>) -> fmt::Result {
-        write!(f, "no kind of signal has the byte {}", self.0)
-    }
-}
-
-impl Error for UnknownSignal {}
-
-// What a statement is. `first` and `second` are the numbers of its parts, `signal` that of its
-// signal.
+/// What a statement is: `first` and `second` are the numbers of its parts, `signal` that of its
+/// signal.
 #[derive(Clone, Copy, Debug, Default, PartialEq, Eq)]
 pub enum Kind {
     #[default]
@@ -61,81 +48,30 @@ pub enum Kind {
     Local { signal: u8, first: u8 },
 }
 
-// Four bytes that spell no statement: an unknown kind, or a field that it does not use and that is
-// not 0.
-#[derive(Clone, Copy, Debug, PartialEq, Eq)]
-pub struct UnknownStatement(pub [u8; 4]);
-
-// A record: the bytes of kind, signal, first, second.
-impl TryFrom<[u8; 4]> for Kind {
-    type Error = UnknownStatement;
-
-    ghost try_from_gives = { SaysStatement };
-
-    fn try_from(record: [u8; 4]) -> Result<Self, UnknownStatement> {
-        match record {
-            [0, 0, 0, 0] => Ok(Kind::Nothing),
-            [1, 0, 0, 0] => Ok(Kind::Stop),
-            [2, signal, 0, 0] => Ok(Kind::Emit { signal }),
-            [3, signal, 0, 0] => Ok(Kind::Wait { signal }),
-            [4, 0, first, second] => Ok(Kind::Sequence { first, second }),
-            [5, 0, first, second] => Ok(Kind::Parallel { first, second }),
-            [6, 0, first, 0] => Ok(Kind::Loop { first }),
-            [7, signal, first, second] => Ok(Kind::When {
+impl Kind {
+    /// The statement that a record of a table says: its bytes are the kind, the signal, the first
+    /// and the second part. `None` where the kind is unknown, or a field that it does not use is
+    /// not 0.
+    pub fn from_record(bytes: [u8; 4]) -> Option<Self>
+        ensures { result ≡ said_by bytes }
+    {
+        match bytes {
+            [0, 0, 0, 0] => Some(Kind::Nothing),
+            [1, 0, 0, 0] => Some(Kind::Stop),
+            [2, signal, 0, 0] => Some(Kind::Emit { signal }),
+            [3, signal, 0, 0] => Some(Kind::Wait { signal }),
+            [4, 0, first, second] => Some(Kind::Sequence { first, second }),
+            [5, 0, first, second] => Some(Kind::Parallel { first, second }),
+            [6, 0, first, 0] => Some(Kind::Loop { first }),
+            [7, signal, first, second] => Some(Kind::When {
                 signal,
                 first,
                 second,
             }),
-            [8, signal, first, 0] => Ok(Kind::Kill { signal, first }),
-            [9, signal, first, 0] => Ok(Kind::Local { signal, first }),
-            _ => Err(UnknownStatement(record)),
+            [8, signal, first, 0] => Some(Kind::Kill { signal, first }),
+            [9, signal, first, 0] => Some(Kind::Local { signal, first }),
+            _ => None,
         }
-    }
-}
-
-impl fmt::Display for UnknownStatement {
-    ghost output = { λ e. Some (unknown_statement_text e.0) };
-
-    fn fmt<W: fmt::Write>(&self, f: &mut fmt::Formatter<W>) -> fmt::Result {
-        let [kind, signal, first, second] = self.0;
-        write!(f, "no statement is {kind} {signal} {first} {second}")
-    }
-}
-
-impl Error for UnknownStatement {}
-
-// How far a statement has come in a count.
-#[derive(Clone, Copy, Debug, Default, PartialEq, Eq)]
-pub enum Mark {
-    #[default]
-    Idle,
-    Waiting,
-    UnderWay,
-    Done,
-}
-
-// A statement: what it is, and its mark. It is idle until a count begins it.
-#[derive(Clone, Copy, Debug, Default, PartialEq, Eq)]
-pub struct Statement {
-    pub kind: Kind,
-    pub mark: Mark,
-}
-
-impl Statement {
-    pub fn new(kind: Kind) -> Self
-        ensures { result ≡ fresh kind }
-    {
-        Statement {
-            kind,
-            mark: Mark::Idle,
-        }
-    }
-
-    pub fn set_mark(&mut self, mark: Mark)
-        ensures kept { self.new.kind ≡ self.old.kind }
-        ensures after { self.new.mark ≡ mark }
-    {
-        self.mark = mark;
     }
 }
 
@@ -156,5 +92,42 @@ impl fmt::Display for Kind {
             Kind::Kill { signal, .. } => write!(f, "kill {signal}"),
             Kind::Local { signal, .. } => write!(f, "local {signal}"),
         }
+    }
+}
+
+/// How far a statement has come in a count.
+#[derive(Clone, Copy, Debug, Default, PartialEq, Eq)]
+pub enum Mark {
+    #[default]
+    Idle,
+    Waiting,
+    UnderWay,
+    Done,
+}
+
+/// A statement: what it is, and its mark, which is idle until a count begins it.
+#[derive(Clone, Copy, Debug, Default, PartialEq, Eq)]
+pub struct Statement {
+    pub kind: Kind,
+    pub mark: Mark,
+}
+
+impl Statement {
+    /// A statement of this kind that no count has begun.
+    pub fn new(kind: Kind) -> Self
+        ensures { result ≡ fresh kind }
+    {
+        Statement {
+            kind,
+            mark: Mark::Idle,
+        }
+    }
+
+    /// Gives it another mark; its kind stays.
+    pub fn set_mark(&mut self, mark: Mark)
+        ensures kept { self.new.kind ≡ self.old.kind }
+        ensures after { self.new.mark ≡ mark }
+    {
+        self.mark = mark;
     }
 }

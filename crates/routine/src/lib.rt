@@ -5,7 +5,6 @@ mod checker;
 mod drafts;
 mod kinds;
 mod loader;
-mod questions;
 mod reader;
 mod reasons;
 mod refusals;
@@ -14,7 +13,7 @@ mod tables;
 
 pub use checked::Routine;
 pub use checker::check;
-pub use kinds::{Kind, Mark, SignalKind, Statement, UnknownSignal, UnknownStatement};
+pub use kinds::{Kind, Mark, SignalKind, Statement};
 pub use loader::load;
 pub use reader::read;
 pub use reasons::Reason;

@@ -7,7 +7,7 @@ ghost use Rattle.routine.specs.Lent.{draft_content};
 use crate::drafts::Draft;
 use crate::kinds::{Kind, SignalKind, Statement};
 use crate::refusals::Refusal;
-use crate::tables::Table;
+use crate::tables::{CONTENTS_BYTES, MOST_SIGNALS, MOST_STATEMENTS, STATEMENT_BYTES, Table};
 use arrayvec::ArrayVec;
 use std::alloc::Global;
 
@@ -30,12 +30,12 @@ impl Header {
         };
         let signals = word(*c, *d);
         let statements = word(*g, *h);
-        let right = word(*a, *b) == 8
-            && signals <= 64
-            && word(*e, *f) == 8 + signals
+        let right = word(*a, *b) == CONTENTS_BYTES
+            && signals <= MOST_SIGNALS
+            && word(*e, *f) == CONTENTS_BYTES + signals
             && 1 <= statements
-            && statements <= 256
-            && bytes.len() == 8 + signals + 4 * statements;
+            && statements <= MOST_STATEMENTS
+            && bytes.len() == CONTENTS_BYTES + signals + STATEMENT_BYTES * statements;
         let header = Header {
             signals,
             statements,
@@ -83,33 +83,37 @@ fn word(low: u8, high: u8) -> usize
     usize::from(u16::from_le_bytes([low, high]))
 }
 
-fn read_signals(bytes: &[u8]) -> Result<ArrayVec<SignalKind, 64>, Refusal>
-    requires { length bytes.now ≤ 64 }
+// The kinds of the signals, or the first byte that says none.
+fn read_signals(bytes: &[u8]) -> Result<ArrayVec<SignalKind, MOST_SIGNALS>, Refusal>
+    requires { length bytes.now ≤ MOST_SIGNALS }
     ensures { Answers (signals_from 0 bytes.now) (λ made. made.items) result }
 {
     let mut made = ArrayVec::new();
     for (signal, byte) in bytes.iter().enumerate() {
-        let kind = SignalKind::try_from(*byte).map_err(|_| Refusal::SignalKind { signal })?;
+        let kind = SignalKind::from_byte(*byte).ok_or(Refusal::SignalKind { signal })?;
         made.push(kind);
     }
     Ok(made)
 }
 
-fn read_statements(bytes: &[u8], header: Header) -> Result<ArrayVec<Statement, 256>, Refusal>
-    requires { length bytes.now ≤ 4 * 256 }
+// The statements, or the first record that says none or does not fit the header.
+fn read_statements(
+    bytes: &[u8],
+    header: Header,
+) -> Result<ArrayVec<Statement, MOST_STATEMENTS>, Refusal>
+    requires { length bytes.now ≤ STATEMENT_BYTES * MOST_STATEMENTS }
     ensures { Answers (records_from header.signals header.statements 0 bytes.now)
         (λ made. made.items) result }
 {
     let mut made = ArrayVec::new();
     let mut left = bytes;
-    // A rule of the project: a record is taken apart by a pattern that hands on the rest.
+    // A record is taken apart by a pattern that hands on the rest.
     while let [kind, signal, first, second, rest @ ..] = left {
         let statement = made.len();
-        let kind = Kind::try_from([*kind, *signal, *first, *second]).map_err(
-            |_| Refusal::StatementRecord { statement },
-        )?;
+        let refusal = Refusal::StatementRecord { statement };
+        let kind = Kind::from_record([*kind, *signal, *first, *second]).ok_or(refusal)?;
         if !header.fits(statement, kind) {
-            return Err(Refusal::StatementRecord { statement });
+            return Err(refusal);
         }
         made.push(Statement::new(kind));
         left = rest;
@@ -122,7 +126,7 @@ pub(crate) fn read_draft(bytes: &[u8]) -> Result<Draft, Refusal>
     ensures { Answers (read_of bytes.now) draft_content result }
 {
     let header = Header::read(bytes)?;
-    let (kinds, records) = bytes[8..].split_at(header.signals);
+    let (kinds, records) = bytes[CONTENTS_BYTES..].split_at(header.signals);
     let signals = read_signals(kinds)?;
     let statements = read_statements(records, header)?;
     Ok(Draft {
@@ -131,8 +135,9 @@ pub(crate) fn read_draft(bytes: &[u8]) -> Result<Draft, Refusal>
     })
 }
 
-// The table that the bytes say, or why they are none. The bytes may be any. Want of memory comes
-// only where they are one.
+/// The table that the bytes say, which may be any, not yet checked. Refused by the first of
+/// `TableForm`, `SignalKind` and `StatementRecord` that applies, each test over the whole table;
+/// `Memory` comes only where the bytes are a table.
 pub fn read(heap: Global, bytes: &[u8]) -> Result<Table, Refusal>
     ensures { AnswersOrMemory (read_of bytes.now) content result }
 {

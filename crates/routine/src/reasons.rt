@@ -6,7 +6,8 @@ use crate::refusals::Refusal;
 use std::fmt;
 
 impl Refusal {
-    // What the place numbers, where the refusal names one.
+    /// What the refusal's place numbers: a signal, a statement or an offset; `None` where it names
+    /// no place.
     pub fn subject(&self) -> Option<&'static str>
         ensures { option_map (λ x. x.now) result ≡ subject_of self.now }
     {
@@ -33,7 +34,7 @@ impl Refusal {
         }
     }
 
-    // What is wrong there.
+    /// What is wrong there, in plain words.
     pub fn wording(&self) -> &'static str
         ensures { result.now ≡ wording_of self.now }
     {
@@ -41,13 +42,15 @@ impl Refusal {
             Refusal::TableForm => "the contents or the length are not those of a table",
             Refusal::SignalKind { .. } => "its kind is above 2",
             Refusal::StatementRecord { .. } => {
-                "an unknown kind, an unused field that is not 0, a signal that is not there, or a part that is not above it"
+                "an unknown kind, an unused field that is not 0, a signal that is not there, \
+                or a part that is not above it and below the number of statements"
             }
             Refusal::Parts { .. } => "it is not named as a part exactly once",
             Refusal::SignalUse { .. } =>
                 "an emit of an input, or a local statement whose signal is not local",
             Refusal::Scope { .. } => {
-                "a local signal outside its local statement, or a local statement with the signal of a lower one"
+                "a local signal outside its local statement, \
+                or a local statement with the signal of a lower one"
             }
             Refusal::EndlessLoop { .. } => "a loop whose first part can end at once",
             Refusal::AlreadyOpen => "an instant is open already",
@@ -68,7 +71,7 @@ impl Refusal {
     }
 }
 
-// A refusal in plain words.
+/// A refusal in plain words, as it is printed: with its subject and its place, where it has one.
 #[derive(Clone, Copy, Debug, PartialEq, Eq)]
 pub struct Reason(pub Refusal);
 

@@ -6,8 +6,8 @@ use std::alloc::{AllocError, AllocFailed};
 use std::error::Error;
 use std::fmt;
 
-// Why something was refused: a case for each refusal of the engine, by its layer. The field is its
-// place.
+/// Why something was refused: a case for each refusal of the engine, by its layer. The field is its
+/// place. docs/REFUSALS.md says when each comes.
 #[derive(Clone, Copy, Debug, PartialEq, Eq)]
 pub enum Refusal {
     // layer 1: the form of a table
@@ -33,12 +33,12 @@ pub enum Refusal {
     RecordForm,
     RecordHead { offset: usize },
     RecordMarks { statement: usize },
-    // of no layer: want of memory
+    /// Want of memory, which is of no layer.
     Memory,
 }
 
 impl Refusal {
-    // The number by which the refusal is known; want of memory has none.
+    /// The number by which the refusal is known; `Memory` has none.
     pub fn number(&self) -> Option<u8>
         ensures { result ≡ number_of self.now }
     {
@@ -66,7 +66,7 @@ impl Refusal {
         }
     }
 
-    // The layer of the engine that refuses; want of memory has none.
+    /// The layer of the engine that refuses, 1 to 4; `Memory` has none.
     pub fn layer(&self) -> Option<u8>
         ensures { result ≡ layer_of self.now }
     {
@@ -93,7 +93,7 @@ impl Refusal {
         }
     }
 
-    // The place of what is wrong, 0 where the refusal names none.
+    /// The place of what is wrong, 0 where the refusal names none.
     pub fn place(&self) -> usize
         ensures { result ≡ place_of self.now }
     {

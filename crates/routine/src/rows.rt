@@ -1,6 +1,7 @@
 ghost use Rattle.std.specs.Prelude.{◌≡◌, ◌≤◌, length, slice_get};
 ghost use Rattle.routine.specs.Kinds.{kinds};
 ghost use Rattle.routine.specs.Layout.{Formed};
+ghost use Rattle.routine.specs.declared.tables.TheConstants.{MOST_STATEMENTS};
 
 use crate::kinds::{Kind, SignalKind, Statement};
 
@@ -9,7 +10,7 @@ use crate::kinds::{Kind, SignalKind, Statement};
 pub(crate) struct Rows<'a> {
     pub(crate) signals: &'a [SignalKind],
     pub(crate) statements: &'a [Statement],
-    ghost most: { length statements.now ≤ 256 },
+    ghost most: { length statements.now ≤ MOST_STATEMENTS },
     ghost formed: { Formed (length signals.now) (kinds statements.now) },
 }
 
@@ -33,8 +34,8 @@ impl Rows<'_> {
         self.signals.get(signal).copied()
     }
 
-    // Statement i, one level of its tree, and where its parts lie. From the count on it counts
-    // as nothing.
+    // The kind of statement i, one level of its tree, and where its parts lie; nothing where
+    // there is no such statement.
     pub(crate) fn kind(&self, i: usize) -> Kind
         ensures value { result ≡ kind_at (lent_kinds self.now) i }
         ensures rise { PartsRise (lent_count self.now) i (shape result) }

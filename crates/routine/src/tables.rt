@@ -1,6 +1,7 @@
 ghost use Rattle.std.specs.Prelude.{◌≡◌, ◌≤◌, length, vec_items, vec_len, slice_get};
 ghost use Rattle.routine.specs.Kinds.{kinds};
 ghost use Rattle.routine.specs.Layout.{Formed};
+ghost use Rattle.routine.specs.declared.tables.TheConstants.{MOST_SIGNALS, MOST_STATEMENTS};
 
 use crate::kinds::{Kind, SignalKind, Statement};
 use crate::rows::Rows;
@@ -11,19 +12,29 @@ pub const MOST_SIGNALS: usize = 64;
 /// How many statements a table has at most.
 pub const MOST_STATEMENTS: usize = 256;
 
-/// How many bytes a table has at most: its contents, a byte a signal, four a statement.
-pub const MOST_TABLE_BYTES: usize = 1096;
+// How many bytes a table begins with: its contents.
+pub(crate) const CONTENTS_BYTES: usize = 8;
 
-// What a table's bytes say, not yet checked: its signals and its statements, each with a number
-// from 0 on. A part is a number and no box, since calls and refusals name statements by number. It
-// has the form of a table: at most 64 signals, 1 to 256 statements, fields that fit.
+// How many bytes a table has for a statement.
+pub(crate) const STATEMENT_BYTES: usize = 4;
+
+/// How many bytes a table has at most: its contents, a byte for each signal, and a record for each
+/// statement.
+pub const MOST_TABLE_BYTES: usize = CONTENTS_BYTES
+    + MOST_SIGNALS
+    + STATEMENT_BYTES * MOST_STATEMENTS;
+
+/// What a table's bytes say, not yet checked: its signals and its statements, each with a number
+/// from 0 on. It has the form of a table: at most `MOST_SIGNALS` signals, 1 to `MOST_STATEMENTS`
+/// statements, and fields that fit. A part is a number and no box, since calls and refusals name
+/// statements by number.
 #[derive(Debug, Drop)]
 pub struct Table {
     pub signals: Vec<SignalKind>,
     pub statements: Vec<Statement>,
-    ghost few: { vec_len signals ≤ 64 },
+    ghost few: { vec_len signals ≤ MOST_SIGNALS },
     ghost some: { 1 ≤ vec_len statements },
-    ghost most: { vec_len statements ≤ 256 },
+    ghost most: { vec_len statements ≤ MOST_STATEMENTS },
     ghost formed: { Formed (vec_len signals) (kinds statements.items) },
 }
 
@@ -49,15 +60,15 @@ impl Table {
         self.statements.len()
     }
 
-    // The kind of a signal, if there is one of that number.
+    /// The kind of a signal, if there is one of that number.
     pub fn signal(&self, signal: usize) -> Option<SignalKind>
         ensures { result ≡ slice_get (table_signals self.now) signal }
     {
         self.rows().signal(signal)
     }
 
-    // Statement i, one level of its tree, and where its parts lie. From the count on it counts as
-    // nothing.
+    /// The kind of statement i, whose parts have higher numbers; `Nothing` where there is no such
+    /// statement.
     pub fn kind(&self, i: usize) -> Kind
         ensures value { result ≡ kind_at (table_kinds self.now) i }
         ensures rise { PartsRise (count_of self.now) i (shape result) }

@@ -4,14 +4,16 @@
 // work, by react and call by call, on both boards, and which statements a react steps; and of
 // records, from board to board, and each refusal of one with the ways into it; and of relays.
 #[cfg(test)]
-mod calls;
+mod building;
 #[cfg(test)]
-mod records;
+mod handing_over;
 #[cfg(test)]
-mod relays;
+mod loading;
 #[cfg(test)]
-mod tables;
+mod reacting;
 #[cfg(test)]
-mod traces;
+mod relaying;
 #[cfg(test)]
-mod worked;
+mod step_order;
+#[cfg(test)]
+mod stepping;

@@ -10,35 +10,17 @@ use Rattle.routine.specs.Kinds.{shape, kind_at, shape_at}
 use Rattle.routine.specs.Layout.{Formed}
 use Rattle.routine.specs.Meaning.{declares, misuses, signal_at, unscoped, is_out_of_scope, endless}
 use Rattle.routine.specs.Meaning.{in_scope, encloses}
-use Rattle.routine.specs.Search.{any, lowest}
+use Rattle.std.specs.List.{list_any, range_with_len}
 use Rattle.routine.specs.Tree.{inside, contains, tree_at}
 use Rattle.routine.specs.View.{table_signals, table_kinds}
 use Rattle.routine.proofs.Passed.{Tested, tested, once}
-use Rattle.routine.proofs.Searches.{lowest_below, found, none_below}
+use Rattle.routine.proofs.Searches.{some_passes, none_passes}
 use Rattle.routine.proofs.Trees.{Rising, rising, in_under, contains_in}
 use Rattle.routine.proofs.Whole.{some_statement}
 use Rattle.routine.specs.Meaning.{is_local}
 use Rattle.rules.specs.Rules.{Tree, leaf, one, two}
 use Rattle.rules.specs.Theorems.{Checked}
 use Rattle.rules.proofs.TableTests.{RowBinds, RowUses, Turning, Scopes, Table}
-
--- what any finds
-any_says : (P : ℕ → Bool) (n : ℕ) → any P n ≡ true → (k : ℕ) × (k < n) × (P k ≡ true)
-any_says P n h = go (lowest P n) refl h
-  where
-    go : (o : Option ℕ) → lowest P n ≡ o → is_some o ≡ true → (k : ℕ) × (k < n) × (P k ≡ true)
-    go None e h = absurd (grind arith)
-    go (Some i) e h = (i, lowest_below P n i e, hit i e)
-      where
-        hit : (i : ℕ) → lowest P n ≡ Some i → P i ≡ true
-        hit i e = let f = found P n in rw e at f
-
-none_says : (P : ℕ → Bool) (n : ℕ) → any P n ≡ false → (k : ℕ) → k < n → P k ≡ false
-none_says P n h = none_below P n (go (lowest P n) h)
-  where
-    go : (o : Option ℕ) → is_some o ≡ false → o ≡ None
-    go None e = refl
-    go (Some i) e = absurd (grind arith)
 
 -- what is inside a statement is in its tree
 pub inside_contains : (t : Tree) (i : ℕ) → inside t i ≡ true → contains t i ≡ true
@@ -62,11 +44,11 @@ uses_out_of_scope gs ks i k s h u = grind arith
 
 binds_alone : (gs : List SignalKind) (ks : List Kind) (i : ℕ) (k : Kind) (s : ℕ)
     → unscoped gs ks i k ≡ false → RowBinds (shape k) s
-    → any (λ j. declares (kind_at ks j) s) i ≡ false
+    → list_any (λ j. declares (kind_at ks j) s) (range_with_len 0 i) ≡ false
 binds_alone gs ks i k s h b = grind arith
 
-astray_scope : (b c : Bool) → (b && not c) ≡ false → b ≡ true → c ≡ true
-astray_scope b c h e = grind arith
+use_in_scope : (b c : Bool) → (b && not c) ≡ false → b ≡ true → c ≡ true
+use_in_scope b c h e = grind arith
 
 turning_says : (ks : List Kind) (k : Kind) → endless ks k ≡ false → Turning ks (shape k)
 turning_says ks k h = grind arith
@@ -82,7 +64,7 @@ module _ (gs : List SignalKind) (ks : List Kind) (C : Checked gs ks) where
       → ¬ (j < i)
   not_below i j s l b c h =
       let a = binds_alone gs ks i (kind_at ks i) s (tests.scopes i l) b in
-      both_ways _ (none_says (λ j. declares (kind_at ks j) s) i a j h)
+      both_ways _ (none_passes (λ j. declares (kind_at ks j) s) i a j h)
       (binds_declares (kind_at ks j) s c)
 
   scopes : Scopes ks gs
@@ -93,8 +75,8 @@ module _ (gs : List SignalKind) (ks : List Kind) (C : Checked gs ks) where
             omega arith;
         within = λ i s l u x.
             let a = uses_out_of_scope gs ks i (kind_at ks i) s (tests.scopes i l) u in
-            let d = astray_scope (is_local (signal_at gs s)) (in_scope ks s i) a (ap is_local x) in
-            let f = any_says (encloses ks s i) (length ks) d in
+            let d = use_in_scope (is_local (signal_at gs s)) (in_scope ks s i) a (ap is_local x) in
+            let f = some_passes (encloses ks s i) (length ks) d in
             let g = and_parts _ _ f.2 in (
               f.0,
               f.1,

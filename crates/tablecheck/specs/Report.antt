@@ -1,6 +1,6 @@
 -- what there is to print of a table
 use Rattle.std.specs.Prelude.{ℕ, ◌+◌, ◌*◌, List, ◌++◌, length, Ok, Err, codes, decimal, Result}
-use Rattle.std.specs.List.{repeat}
+use Rattle.std.specs.List.{count_by, repeat}
 use Rattle.routine.specs.declared.kinds.SignalKind.{SignalKind}
 use Rattle.routine.specs.declared.kinds.SignalKind.TheVariants.{Input, Output, Local}
 use Rattle.routine.specs.declared.kinds.Kind.{Kind}
@@ -9,7 +9,7 @@ use Rattle.routine.specs.declared.refusals.Refusal.{Refusal}
 use Rattle.routine.specs.Kinds.{kinds, kind_at}
 use Rattle.routine.specs.Texts.{line_end, kind_text}
 use Rattle.routine.specs.Tree.{Tree, leaf, one, two, tree_at}
-use Rattle.routine.specs.Meaning.{how_many}
+use Rattle.routine.specs.Meaning.{same}
 use Rattle.routine.specs.View.{load_of}
 use Rattle.tablecheck.specs.declared.report.Census.{Census}
 
@@ -40,9 +40,9 @@ census_text c =
 
 abbrev pub census : List SignalKind → List Kind → Census
 census gs ks = record {
-  inputs = how_many Input gs;
-  outputs = how_many Output gs;
-  locals = how_many Local gs;
+  inputs = count_by (λ g. same g Input) gs;
+  outputs = count_by (λ g. same g Output) gs;
+  locals = count_by (λ g. same g Local) gs;
   statements = length ks;
 }
 

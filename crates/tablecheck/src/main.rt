@@ -1,19 +1,19 @@
 #![tactic(auto)]
 
+mod explained;
 mod outline;
-mod printed;
 mod report;
 
+use explained::Explained;
+use input::{no_arguments, read_input};
 use report::report;
-use std::io::Read;
+use std::env;
 
-// `tablecheck`, `run` and `handover` differ in the text that they make; a shared function for these
-// four lines would be no plainer. Reads a table from standard input and prints whether it is a
-// routine.
+// Reads a table from standard input and prints whether it is a routine.
 fn main(rt: HostRuntime) -> anyhow::Result<()> {
-    let mut bytes = Vec::new(rt.alloc());
-    rt.stdin().take(65536).read_to_end(&mut bytes)?;
-    let printed = report(rt.alloc(), &bytes)?;
-    print!(rt; "{printed}")?;
+    no_arguments(env::args(&rt)?)?;
+    let bytes = read_input(rt.alloc(), rt.stdin())?;
+    let explained = Explained(report(rt.alloc(), &bytes)?);
+    print!(rt; "{explained}")?;
     Ok(())
 }

@@ -1,6 +1,6 @@
 ghost use Rattle.std.specs.Prelude.{◌≡◌, ◌<◌, ◌≤◌, ◌++◌, Some, string_bytes, OnOk};
 ghost use Rattle.routine.specs.Tree.{tree_at};
-ghost use Rattle.routine.specs.View.{table_kinds, count_of};
+ghost use Rattle.routine.specs.View.{table_kinds};
 ghost use Rattle.tablecheck.specs.Report.{statement_text, outline};
 
 use routine::{Kind, Routine};

@@ -1,11 +1,11 @@
 ghost use Rattle.std.specs.Prelude.{◌≡◌, Some};
 ghost use Rattle.routine.specs.Refusals.{SaysOrMemory};
 ghost use Rattle.routine.specs.View.{table_signals, table_kinds};
+ghost use Rattle.input.specs.Printed.{said};
 ghost use Rattle.tablecheck.specs.Report.{census_text, census, report_of};
-ghost use Rattle.tablecheck.specs.Printed.{said};
 
 use crate::outline::write_outline;
-use crate::printed::Printed;
+use input::Printed;
 use routine::{Refusal, Routine, SignalKind, load};
 use std::alloc::{AllocError, Global};
 use std::fmt;
@@ -45,8 +45,8 @@ impl fmt::Display for Census {
     }
 }
 
-// What there is to say of a table's bytes: the routine that they are, or why they are none,
-// whatever memory there is.
+/// What there is to say of a table's bytes: the routine that they are, or why they are none,
+/// whatever memory there is.
 pub fn report(heap: Global, bytes: &[u8]) -> Result<Printed, AllocError>
     ensures { SaysOrMemory (report_of bytes.now) said result }
 {

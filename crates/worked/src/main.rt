@@ -3,10 +3,12 @@
 
 mod worked;
 
-use std::io;
+use input::no_arguments;
+use std::env;
 use worked::worked_routines;
 
-fn main(rt: HostRuntime) -> io::Result<()> {
+fn main(rt: HostRuntime) -> anyhow::Result<()> {
+    no_arguments(env::args(&rt)?)?;
     println!(rt; "routine instant outputs status steps")?;
     for line in worked_routines() {
         println!(rt; "{line}")?;

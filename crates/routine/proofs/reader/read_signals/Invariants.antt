@@ -6,6 +6,6 @@ use Rattle.routine.proofs.reader.read_signals.Given as goal
 
 abbrev pub invariant-loop-signal : goal.invariant-loop-signal
 invariant-loop-signal l =
-    (after l.made.items (signals_from l.signal-counter (drop l.signal-counter l.bytes))
+    (after l.made.items (signals_from l.signal (drop l.signal l.bytes))
     ≡ signals_from 0 l.bytes)
-    × (array_vec_len l.made ≡ l.signal-counter)
+    × (array_vec_len l.made ≡ l.signal)

@@ -6,11 +6,13 @@ use Rattle.routine.proofs.reader.read_statements.Goals as goal
 
 pub loop-left-preserved : goal.loop-left-preserved
 loop-left-preserved c =
-    let e = c.push.ensures in (
-      records_more c.args.header.signals c.args.header.statements _ c.loop-left.left.now
-          (search rules) _ _ c.loop-left.invariant.0
-          c.push.new.self.items c.in_ok-kind.kind c.new.result (array_vec_len c.push.new.self)
-          (search rules) (c.if-not-fits.ensures
-          ∙ ap (λ (m : ℕ). fits c.args.header.signals c.args.header.statements m c.in_ok-kind.kind) c.len-statement.ensures.value) c.new.ensures e.items e.len,
+    let h = c.args.header in
+    let e = c.push.ensures in
+    let kind = c.in_ok-kind.kind in
+    let fit = c.if-not-fits.ensures
+    ∙ ap (λ (m : ℕ). fits h.signals h.statements m kind) c.len-statement.ensures.value in (
+      records_more h.signals h.statements _ c.loop-left.left.now (search rules) _ _
+          c.loop-left.invariant.0 c.push.new.self.items kind c.new.result
+          (array_vec_len c.push.new.self) (search rules) fit c.new.ensures e.items e.len,
       search (rules, arith),
     )

@@ -1,5 +1,6 @@
 use Rattle.std.proofs.Common.{◌≡◌, ◌+◌, ◌*◌, ◌≤◌, length}
 use Rattle.arrayvec.specs.ArrayVec.{array_vec_len}
+use Rattle.routine.specs.declared.tables.TheConstants.{STATEMENT_BYTES, MOST_STATEMENTS}
 use Rattle.routine.specs.Layout.{records_from}
 use Rattle.routine.proofs.Entries.{after}
 use Rattle.routine.proofs.reader.read_statements.Given as goal
@@ -9,7 +10,7 @@ invariant-loop-left l =
     (after l.made.items (records_from l.header.signals l.header.statements
     (array_vec_len l.made) l.left)
     ≡ records_from l.header.signals l.header.statements 0 l.bytes)
-    × (4 * array_vec_len l.made + length l.left ≤ 1024)
+    × (STATEMENT_BYTES * array_vec_len l.made + length l.left ≤ STATEMENT_BYTES * MOST_STATEMENTS)
 
 abbrev pub decreases-loop-left : goal.decreases-loop-left
 decreases-loop-left l = length l.left

@@ -1,7 +1,7 @@
-use crate::tables::{INPUT, LOCAL, OUTPUT, routine};
+use crate::building::{INPUT, LOCAL, OUTPUT, nest, routine};
 use count::{Closing, Count, Phase, change_board};
-use record::{Head, Saved};
-use routine::{Mark, Refusal, Routine};
+use record::{Head, MOST_INSTANTS, RECORD_BYTES, Saved};
+use routine::{MOST_SIGNALS, MOST_STATEMENTS, Mark, Refusal, Routine};
 use rules::Status;
 use signals::{BitBoard, Board, StampBoard};
 use std::alloc::Global;
@@ -46,16 +46,20 @@ const OVER: [u8; 15] = [2, 3, 0, 0, 0, 0, 0, 0, 0, 0, 0, 0, 0, 0, 0];
 
 const OVER_MARKS: [u8; 13] = [2, 3, 0, 0, 0, 0, 0, 0, 0, 0, 2, 0, 3];
 
-fn record(head: [u8; 15], marks: [u8; 13]) -> [u8; 279] {
-    let mut bytes = [0; 279];
+fn record(head: [u8; 15], marks: [u8; 13]) -> [u8; RECORD_BYTES] {
+    let mut bytes = [0; RECORD_BYTES];
     bytes[..8].copy_from_slice(&[8, 0, 15, 0, 23, 0, 13, 0]);
     bytes[8..23].copy_from_slice(&head);
     bytes[23..36].copy_from_slice(&marks);
     bytes
 }
 
-fn hands_over<B: Board + Drop>(rt: &impl Abort, count: Count<B>, record: [u8; 279]) -> Routine {
-    let mut place = [255; 279];
+fn hands_over<B: Board + Drop>(
+    rt: &impl Abort,
+    count: Count<B>,
+    record: [u8; RECORD_BYTES],
+) -> Routine {
+    let mut place = [255; RECORD_BYTES];
     let released = count.hand_over(&mut place);
     assert!(rt; place == record);
     released.routine
@@ -136,10 +140,9 @@ fn handed_over(rt: HostRuntime) -> Result<(), Fail> {
 // 255 loops in one another around a stop, with 64 inputs that are all present.
 #[test]
 fn handed_over_at_the_limits(rt: HostRuntime) -> Result<(), Fail> {
-    let mut records: Vec<[u8; 4]> = (1..=255u8).map(|i| [6, 0, i, 0]).collect(rt.alloc())?;
-    records.push([1, 0, 0, 0])?;
+    let records = nest(rt.alloc(), MOST_STATEMENTS)?;
     let mut count = Count::new(
-        routine(rt.alloc(), &[INPUT; 64], &records)?,
+        routine(rt.alloc(), &[INPUT; MOST_SIGNALS], &records)?,
         BitBoard::new(),
     );
     count.react(0)?;
@@ -147,7 +150,7 @@ fn handed_over_at_the_limits(rt: HostRuntime) -> Result<(), Fail> {
     let moved = change_board(count, StampBoard::new());
     let handed = moved.handed;
     let mut count = moved.count;
-    let mut expected = [2; 279];
+    let mut expected = [2; RECORD_BYTES];
     expected[..15].copy_from_slice(&[8, 0, 15, 0, 23, 0, 0, 1, 1, 1, 0, 0, 0, 0, 0]);
     expected[15..23].copy_from_slice(&[255; 8]);
     expected[278] = 3;
@@ -168,9 +171,9 @@ fn refuses<B: Board>(rt: &impl Abort, count: &mut Count<B>, record: &[u8], refus
 fn wrong_form<B: Board + Drop>(rt: &(impl Abort + AllocGlobal), board: B) -> Result<(), Fail> {
     let mut count = halfway(every_kind(rt.alloc())?, board)?;
     let right = record(OPEN, OPEN_MARKS);
-    let mut long = [0; 280];
-    long[..279].copy_from_slice(&right);
-    for bytes in [&[], &right[..36], &right[..278], &long[..]] {
+    let mut long = [0; RECORD_BYTES + 1];
+    long[..RECORD_BYTES].copy_from_slice(&right);
+    for bytes in [&[], &right[..36], &right[..RECORD_BYTES - 1], &long[..]] {
         refuses(rt, &mut count, bytes, Refusal::RecordForm);
     }
     for place in [0, 1, 2, 3, 4, 5, 6, 7, 36, 278] {
@@ -292,16 +295,19 @@ fn last_instant(rt: HostRuntime) -> Result<(), Fail> {
     let mut count = Count::new(every_kind(rt.alloc())?, BitBoard::new());
     let resting = [0, 255, 255, 255, 255, 0, 0, 0, 0, 0, 0, 0, 0, 0, 0];
     count.take_over(&record(resting, RESTING_MARKS))?;
-    assert_eq!(rt; (count.phase(), count.closed()), (Phase::Resting, u32::MAX));
+    assert_eq!(rt;
+        (count.phase(), count.closed()),
+        (Phase::Resting, MOST_INSTANTS)
+    );
     assert_eq!(rt; count.begin(0), Err(Refusal::NoInstantLeft));
     let open = [1, 254, 255, 255, 255, 255, 255, 15, 0, 0, 0, 0, 0, 0, 0];
     count.take_over(&record(open, OPEN_MARKS))?;
     assert_eq!(rt;
         (count.phase(), count.closed()),
-        (Phase::Open, 4_294_967_294)
+        (Phase::Open, MOST_INSTANTS - 1)
     );
     count.step(2)?;
-    let last = closing(u32::MAX, 2, Status::Suspended, 65_535);
+    let last = closing(MOST_INSTANTS, 2, Status::Suspended, 65_535);
     assert_eq!(rt; count.close(), Ok(last));
     assert_eq!(rt; count.begin(0), Err(Refusal::NoInstantLeft));
     assert_eq!(rt; count.react(0), Err(Refusal::NoInstantLeft));

@@ -1,4 +1,4 @@
-use crate::tables::{INPUT, LOCAL, OUTPUT, routine};
+use crate::building::{INPUT, LOCAL, OUTPUT, routine};
 use count::{Closing, Count, Phase};
 use routine::{Mark, Refusal, Routine};
 use rules::Status;

@@ -1,6 +1,6 @@
-use crate::tables::{INPUT, LOCAL, OUTPUT, routine};
+use crate::building::{INPUT, LOCAL, OUTPUT, nest, routine};
 use count::{Closing, Count, Phase};
-use routine::{Refusal, Routine};
+use routine::{MOST_SIGNALS, MOST_STATEMENTS, Refusal, Routine};
 use rules::Status;
 use signals::{BitBoard, Board, StampBoard};
 use std::process::Abort;
@@ -181,11 +181,10 @@ fn emitted(rt: HostRuntime) -> Result<(), Fail> {
 // the innermost one goes round.
 #[test]
 fn at_the_limits(rt: HostRuntime) -> Result<(), Fail> {
-    let mut records: Vec<[u8; 4]> = (1..=255u8).map(|i| [6, 0, i, 0]).collect(rt.alloc())?;
-    records.push([1, 0, 0, 0])?;
+    let records = nest(rt.alloc(), MOST_STATEMENTS)?;
     on_both_boards(
         &rt,
-        &[INPUT; 64],
+        &[INPUT; MOST_SIGNALS],
         &records,
         &[
             Instant(u64::MAX, 0, S, 255),

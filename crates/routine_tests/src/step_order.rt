@@ -1,8 +1,8 @@
 ghost use Rattle.std.specs.Prelude.{vec_items};
 ghost use Rattle.count.specs.Traces.{Trace};
 
-use crate::tables::{INPUT, LOCAL, OUTPUT, routine};
-use crate::worked::{NEW_LIVES, RELAYED};
+use crate::building::{INPUT, LOCAL, OUTPUT, routine};
+use crate::reacting::{NEW_LIVES, RELAYED};
 use count::{Count, Tracer};
 use routine::{Refusal, Routine};
 use signals::{BitBoard, Board, StampBoard};

@@ -1,5 +1,6 @@
-use crate::tables::{INPUT, OUTPUT, routine};
+use crate::building::{INPUT, OUTPUT, routine};
 use count::{Closing, Count};
+use record::RECORD_BYTES;
 use relay::{Call, Event, Keeper, Plan, relay, resume};
 use routine::{Mark, Refusal};
 use rules::Status;
@@ -101,7 +102,7 @@ fn resumed_elsewhere(rt: HostRuntime) -> Result<(), Fail> {
     );
     count.begin(1)?;
     count.step(1)?;
-    let mut record = [0; 279];
+    let mut record = [0; RECORD_BYTES];
     count.hand_over(&mut record);
     let mut count = Count::new(
         routine(rt.alloc(), &[INPUT, OUTPUT], &WAIT_AND_EMIT)?,

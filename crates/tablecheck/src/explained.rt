@@ -1,0 +1,22 @@
+ghost use Rattle.std.specs.Prelude.{Some};
+ghost use Rattle.tablecheck.specs.Explained.{explained_text};
+
+use input::Printed;
+use routine::Reason;
+use std::fmt;
+
+/// What there is to print of a table, and below the line of a refusal the refusal in plain words.
+#[derive(Debug, Drop)]
+pub struct Explained(pub Printed);
+
+impl fmt::Display for Explained {
+    ghost output = { λ e. Some (explained_text e) };
+
+    fn fmt<W: fmt::Write>(&self, f: &mut fmt::Formatter<W>) -> fmt::Result {
+        write!(f, "{}", self.0)?;
+        match &self.0 {
+            Printed::Refused { refusal } => writeln!(f, "{}", Reason(*refusal)),
+            Printed::Lines { .. } => Ok(()),
+        }
+    }
+}
