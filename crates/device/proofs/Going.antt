@@ -142,8 +142,11 @@ module _ {A B : Type 0} {F : Ghosts A} {G : Ghosts B} (table : List ℕ) (q r : 
   pub same_routine : kinds_of c ≡ table_kinds q.table → signals_of c ≡ table_signals q.table
       → kinds_of start ≡ table_kinds r.table → signals_of start ≡ table_signals r.table
       → (kinds_of start ≡ kinds_of d) × (signals_of start ≡ signals_of d)
-  same_routine a g b f =
-      (b ∙ ap (λ t. kinds t.1) same ∙ sym a ∙ sym x.kinds, f ∙ ap (λ t. t.0) same ∙ sym g ∙ sym x.signals)
+  same_routine a g b f = (
+    b ∙ ap (λ t. kinds t.1) same ∙ sym a ∙ sym x.kinds,
+    f ∙ ap (λ t. t.0) same ∙ sym g
+        ∙ sym x.signals,
+  )
 
 -- the record of a sound state says it
 pub says_it : (gs : List SignalKind) (ks : List Kind) (s : State) (bytes : List ℕ)

@@ -1,5 +1,5 @@
 -- a routine that is checked passes the tests of a table
-use Rattle.std.proofs.Common.{ℕ, Bool, ◌≡◌, true, ◌<◌, refl, Option, is_some, None, arith, Some}
+use Rattle.std.proofs.Common.{ℕ, Bool, ◌≡◌, true, ◌<◌, arith}
 use Rattle.std.proofs.Common.{false, List, ◌&&◌, not, length, ap, subst}
 use Rattle.std.proofs.lemmas.Bool.{both_ways, and_parts}
 use Rattle.routine.specs.declared.checked.Routine.{Routine}

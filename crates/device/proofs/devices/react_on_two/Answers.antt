@@ -93,7 +93,8 @@ pub returns-in_err-load-clause-refused : goal.returns-in_err-load-clause-refused
 returns-in_err-load-clause-refused g c =
     let f = c.from_residual in
     let r = err_from_is_err_and f.result f.ensures.1 in
-    as_refused (load_of c.args.table.now) routine_content _ _ (r.1 ∙ ap Err r.2) c.in_err-load.ensures
+    as_refused (load_of c.args.table.now) routine_content _ _
+    (r.1 ∙ ap Err r.2) c.in_err-load.ensures
 
 pub returns-in_err-react_all-clause-refused : goal.returns-in_err-react_all-clause-refused
 returns-in_err-react_all-clause-refused g c =
