@@ -284,7 +284,8 @@ def others(crate, listed):
     """The edits of the gate that are no plant."""
     left = sorted(set(results(crate).values()) - {plant["kept"] for plant in listed})
     names = ", ".join(f"`{name}`" for name in left)
-    return textwrap.fill(f"Other edits that the gate tries: {names}.", 100) + "\n" if left else ""
+    text = textwrap.fill(f"Other edits that the gate tries: {names}.", 100)
+    return f"\n{text}\n" if left else ""
 
 
 def special(lists, key, words):
@@ -308,8 +309,8 @@ def page():
         unbuilt=special(lists, "unbuilt", "The error is `{}`."),
     )
     for crate, listed in lists.items():
-        text += f"\n## crates/{crate}\n\n{refused_table(listed)}\n\n{others(crate, listed)}"
-    return text.rstrip("\n") + "\n"
+        text += f"\n## crates/{crate}\n\n{refused_table(listed)}\n{others(crate, listed)}"
+    return text
 
 
 def check_page():
