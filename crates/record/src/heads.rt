@@ -21,22 +21,26 @@ pub(crate) const PRESENT_OFFSET: usize = 7;
 /// What a count is at, but for its marks: the head of its record.
 #[derive(Clone, Copy, Debug, PartialEq, Eq)]
 pub struct Head {
+    /// Where the count stands.
     pub phase: Phase,
     /// How many instants are closed.
     pub closed: u32,
-    /// The steps of the open instant.
+    /// The steps of the open instant, 0 outside one.
     pub steps: u16,
-    /// The present signals: bit s is set where signal s is present.
+    /// The present signals: bit s is set where signal s is present. Outside an open instant 0.
     pub present: u64,
 }
 
 // What is wrong with a field of a head, so that no count has it.
 #[derive(Clone, Copy, Debug, PartialEq, Eq)]
 pub(crate) enum HeadFault {
+    // The byte of the phase is none.
     NoPhase,
     // The closed instants are all that can be counted, and one more is open.
     NoNumber,
+    // There are steps, and no instant is open.
     StraySteps,
+    // A signal is present, and no instant is open, or the routine does not have it.
     StraySignals,
 }
 
@@ -55,6 +59,7 @@ impl HeadFault {
 }
 
 impl Head {
+    // The bytes of the head in a record.
     pub(crate) fn to_bytes(&self) -> [u8; HEAD_BYTES]
         ensures { result ≡ head_bytes self.now }
     {
@@ -80,7 +85,7 @@ impl Head {
         ]
     }
 
-    // What is wrong with the first field that no head of a routine with so many signals has.
+    // What is wrong with the first bad field, for a routine with so many signals.
     pub(crate) fn fault(&self, signals: usize) -> Option<HeadFault>
         requires { signals ≤ MOST_SIGNALS }
         ensures { result ≡ fault_by self.now.phase signals self.now }

@@ -30,7 +30,9 @@ pub const MOST_TABLE_BYTES: usize = CONTENTS_BYTES
 /// statements by number.
 #[derive(Debug, Drop)]
 pub struct Table {
+    /// The kind of each signal, by its number.
     pub signals: Vec<SignalKind>,
+    /// Each statement, by its number.
     pub statements: Vec<Statement>,
     ghost few: { vec_len signals ≤ MOST_SIGNALS },
     ghost some: { 1 ≤ vec_len statements },
