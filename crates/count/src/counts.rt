@@ -48,7 +48,7 @@ impl<B: Board> Count<B> {
     ghost use Rattle.count.specs.CountView.{kinds_of, signals_of, state_of};
 
     /// A count at its start, of any routine and on any board: statement 0 is begun, all else is
-    /// idle, no signal is present.
+    /// idle, no signal is present. Marks that the routine had and signals of the board are dropped.
     pub fn new(routine: Routine, mut board: B) -> Count<B>
         ensures kinds { kinds_of result ≡ table_kinds routine.table }
         ensures signals { signals_of result ≡ table_signals routine.table }
@@ -88,14 +88,14 @@ impl<B: Board> Count<B> {
         self.steps
     }
 
-    /// How many statements the routine has.
+    /// How many statements the routine has, 1 to `MOST_STATEMENTS`.
     pub fn statements(&self) -> usize
         ensures { result ≡ length (kinds_of self.now) }
     {
         self.rows.routine.count()
     }
 
-    /// How many signals the routine has.
+    /// How many signals the routine has, 0 to `MOST_SIGNALS`.
     pub fn signals(&self) -> usize
         ensures { result ≡ length (signals_of self.now) }
     {

@@ -32,9 +32,9 @@ impl Rows {
             .map_or(0, |waiter| usize::from(*waiter))
     }
 
-    // From where on a rule can apply after the step of statement k that did not; before it, none
-    // below b applies but maybe that of k, and `own_signal_present` says whether the signal of k
-    // was present.
+    // Where the search goes on after the step of statement k, the lowest ready one: below that number
+    // no rule applies but maybe that of its guard. Before the step none below `b` applied but maybe
+    // that of k, and `own_signal_present` says whether the signal of k was present then.
     fn from_after(&self, b: usize, k: usize, own_signal_present: bool) -> usize
         ensures { result ≡ front_after
             (shape_at (kinds_in self.now) k) self.now.waiters own_signal_present b k }

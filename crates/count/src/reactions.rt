@@ -25,7 +25,7 @@ impl<B: Board> Count<B> {
         ensures turns { result ≡ (state_of B.present self.new).steps }
         ensures routine { SameRoutine self.old self.new }
     {
-        // Each turn is a step, so the most steps of an instant bound the loop.
+        // Each turn is a step, and no instant has more than 4 for each statement.
         let most = 4 * self.rows.routine.count();
         let mut front = Front { from: 0, guard: 0 };
         for turn in 0..most {

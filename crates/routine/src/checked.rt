@@ -17,8 +17,8 @@ impl Routine {
     ghost use Rattle.routine.specs.Tree.{tree, occurs, size};
     ghost use Rattle.routine.specs.View.{table_signals, table_kinds, count_of, tree_of};
 
-    /// How many statements there are, 1 to `MOST_STATEMENTS`. Each is once in the routine's tree, and
-    /// a look deeper than so many levels gives the same tree (`fuel`).
+    /// How many statements there are, 1 to `MOST_STATEMENTS`. Each is once in the routine's tree,
+    /// which is the same if one looks deeper than so many levels (`fuel`).
     pub fn count(&self) -> usize
         ensures value { result ≡ length (table_kinds self.now.table) }
         ensures rows { result ≡ count_of self.now.table }

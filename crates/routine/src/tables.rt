@@ -45,6 +45,7 @@ impl Table {
     ghost use Rattle.routine.specs.Tree.{node, tree_at};
     ghost use Rattle.routine.specs.View.{table_signals, table_kinds, count_of, PartsRise};
 
+    // The signals and the statements, lent.
     pub(crate) fn rows(&self) -> Rows<'_>
         ensures signals { result.signals.now ≡ table_signals self.now }
         ensures statements { result.statements.now ≡ vec_items self.now.statements }
@@ -55,6 +56,7 @@ impl Table {
         }
     }
 
+    // How many statements there are.
     pub(crate) fn count(&self) -> usize
         ensures rows { result ≡ count_of self.now }
         ensures listed { result ≡ length (table_kinds self.now) }
