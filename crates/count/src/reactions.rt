@@ -44,12 +44,11 @@ impl<B: Board> Count<B> {
     /// Refused as by [`react`](Count::react): then the tracer is unchanged too.
     pub fn react_traced<T: Tracer>(&mut self, word: u64, tracer: &mut T) -> Result<Closing, Refusal>
         ensures reacts { Reacts B.present self.old self.new word result }
-        ensures told { IfOk result
-            (λ closing. Extends (T.trace tracer.old) (T.trace tracer.new)
+        ensures told { IfOk result (λ closing. Extends (T.trace tracer.old) (T.trace tracer.new)
             (steps_from (kinds_of self.old) (begin_state (state_of B.present self.old) word))) }
-        ensures turns { IfOk result
-            (λ closing. length (steps_from (kinds_of self.old)
-            (begin_state (state_of B.present self.old) word)) ≡ closing.steps) }
+        ensures turns { IfOk result (λ closing. length
+            (steps_from (kinds_of self.old) (begin_state (state_of B.present self.old) word))
+            ≡ closing.steps) }
         ensures refused { IfErr result (λ _. tracer.new ≡ tracer.old) }
     {
         self.begin(word)?;
