@@ -46,7 +46,7 @@ module _ {B : Type 0} {G : Ghosts B} where
     pub signals : signals_of d ≡ signals_of c
     pub kept : IfErr r (λ _. d ≡ c)
 
-  -- begin, step, close, react and take over: the call on c answers r and leaves d
+  -- begin, step, close, react and take over, each by its definitions in Calls or Taking
   abbrev pub Begins : (B → List Bool) → Count B G → Count B G → ℕ → Result (Unit {0}) Refusal
       → Type 0
   Begins present c d word r =

@@ -60,7 +60,7 @@ module _ {B : Type 0} {G : Ghosts B} (present : B → List Bool) where
     pub routine : SameRoutine c d
     pub told : (more : List ℕ) → told cs c (ws ++ more) ≡ told ds d more
 
-  -- the same, or there is no memory, or a word is refused
+  -- c reacted to all the words so, or there is no memory, or a word is refused
   abbrev pub ReactsAll : Count B G → Count B G → List ℕ → List Closing → List Closing
       → Result (Unit {0}) Refusal → Type 0
   ReactsAll c d ws cs ds r =

@@ -42,7 +42,7 @@ is_fixed n i = nat_lt i HEAD_START || nat_le (MARKS_START + n) i
 abbrev pub is_wrong : ℕ → List ℕ → ℕ → Bool
 is_wrong n bytes i = is_fixed n i && not (slice_index bytes i == slice_index (contents n) i)
 
--- none does
+-- no byte is wrong
 unfoldable pub is_fixed_right : ℕ → List ℕ → Bool
 is_fixed_right n bytes = not (list_any (is_wrong n bytes) (range_with_len 0 RECORD_BYTES))
 
@@ -88,13 +88,13 @@ abbrev pub open_fault : ℕ → Head → Option HeadFault
 open_fault g h = cond (h.closed == MOST_INSTANTS) (Some NoNumber)
     (cond (nat_lt h.present (2 ^ g)) None (Some StraySignals))
 
--- a phase that is one: resting and over alike, or open
+-- what is wrong with a field after the phase, by the phase
 abbrev pub fault_by : Phase → ℕ → Head → Option HeadFault
 fault_by Resting g h = still_fault h
 fault_by Open g h = open_fault g h
 fault_by Over g h = still_fault h
 
--- the phase is the first field
+-- the same with the phase, which is the first field
 abbrev pub fault_of : Option Phase → ℕ → Head → Option HeadFault
 fault_of None g h = Some NoPhase
 fault_of (Some phase) g h = fault_by phase g h
@@ -151,7 +151,7 @@ taking_by true (Some fault) marks = Some (RecordHead (offset_of fault))
 taking_by true None (Some i) = Some (RecordMarks i)
 taking_by true None None = None
 
--- the same of bytes, for a routine
+-- the first refusal of the bytes, for a routine of those signals and statements
 abbrev pub taking_refusal : List SignalKind → List Kind → List ℕ → Option Refusal
 taking_refusal gs ks bytes =
     taking_by (has_form (length ks) bytes) (head_fault (length gs) bytes) (marks_fault ks bytes)
@@ -160,7 +160,7 @@ taking_refusal gs ks bytes =
 abbrev pub saved_in : List ℕ → Saved
 saved_in bytes = record { head = head_in bytes; marks = marks_in MOST_STATEMENTS bytes }
 
--- the same as a state, of n statements
+-- the same as a state of n statements
 abbrev pub state_in : ℕ → List ℕ → State
 state_in n bytes =
     record {

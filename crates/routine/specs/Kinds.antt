@@ -11,7 +11,7 @@ use Rattle.routine.specs.declared.kinds.Statement.{Statement}
 abbrev pub kinds : List Statement → List Kind
 kinds ss = map (λ (x : Statement). x.kind) ss
 
--- and its mark
+-- the mark of each
 abbrev pub marks : List Statement → List Mark
 marks ss = map (λ (x : Statement). x.mark) ss
 

@@ -58,6 +58,6 @@ then_checked (Err e) = Err e
 abbrev pub load_of : List ℕ → Result (List SignalKind × List Statement) Refusal
 load_of bytes = then_checked (read_of bytes)
 
--- what a routine says
+-- what the table of a routine says
 abbrev pub routine_content : Routine → List SignalKind × List Statement
 routine_content r = content r.table

@@ -57,6 +57,6 @@ abbrev pub verdict : Result (List SignalKind × List Statement) Refusal → Resu
 verdict (Ok p) = Ok (routine_report p.0 (kinds p.1))
 verdict (Err e) = Err e
 
--- of the bytes of a table
+-- the report of the bytes
 abbrev pub report_of : List ℕ → Result (List ℕ) Refusal
 report_of bytes = verdict (load_of bytes)

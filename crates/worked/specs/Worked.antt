@@ -157,7 +157,7 @@ takes_time =
       calls = [];
     }
 
--- all of them
+-- the worked routines, in the order of docs/LANGUAGE.md
 abbrev pub examples : List Example
 examples =
     nothing_at_all ∷ just_stop ∷ relayed ∷ too_late ∷ killed ∷ over_already ∷ new_life
