@@ -18,8 +18,8 @@ use Rattle.record.specs.declared.phases.Phase.{Phase}
 use Rattle.record.specs.declared.phases.Phase.TheVariants.{Resting, Open, Over}
 use Rattle.record.specs.declared.heads.Head.{Head}
 use Rattle.record.specs.declared.heads.HeadFault.{HeadFault}
-use Rattle.record.specs.declared.heads.HeadFault.TheVariants.{NoPhase, NoNumber, StraySteps}
-use Rattle.record.specs.declared.heads.HeadFault.TheVariants.{StraySignals}
+use Rattle.record.specs.declared.heads.HeadFault.TheVariants.{NoPhase, NoNumber, WrongSteps}
+use Rattle.record.specs.declared.heads.HeadFault.TheVariants.{WrongSignals}
 use Rattle.record.specs.declared.heads.TheConstants.{MOST_INSTANTS, CLOSED_OFFSET, STEPS_OFFSET}
 use Rattle.record.specs.declared.heads.TheConstants.{PRESENT_OFFSET}
 use Rattle.record.specs.declared.layout.TheConstants.{HEAD_START, MARKS_START, RECORD_BYTES}
@@ -80,13 +80,13 @@ head_in bytes =
 
 -- outside an open instant the steps and the present word are 0
 abbrev pub still_fault : Head → Option HeadFault
-still_fault h = cond (h.steps == 0) (cond (h.present == 0) None (Some StraySignals))
-    (Some StraySteps)
+still_fault h = cond (h.steps == 0) (cond (h.present == 0) None (Some WrongSignals))
+    (Some WrongSteps)
 
 -- an open instant has a number, and no signal from g on is present
 abbrev pub open_fault : ℕ → Head → Option HeadFault
 open_fault g h = cond (h.closed == MOST_INSTANTS) (Some NoNumber)
-    (cond (nat_lt h.present (2 ^ g)) None (Some StraySignals))
+    (cond (nat_lt h.present (2 ^ g)) None (Some WrongSignals))
 
 -- what is wrong with a field after the phase, by the phase
 abbrev pub fault_by : Phase → ℕ → Head → Option HeadFault
@@ -107,8 +107,8 @@ head_fault g bytes = fault_of (phase_in (slice_index bytes HEAD_START)) g (head_
 abbrev pub offset_of : HeadFault → ℕ
 offset_of NoPhase = 0
 offset_of NoNumber = CLOSED_OFFSET
-offset_of StraySteps = STEPS_OFFSET
-offset_of StraySignals = PRESENT_OFFSET
+offset_of WrongSteps = STEPS_OFFSET
+offset_of WrongSignals = PRESENT_OFFSET
 
 -- the head, or what is wrong with it
 abbrev pub head_read : ℕ → List ℕ → Result Head HeadFault

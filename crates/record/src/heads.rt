@@ -39,9 +39,9 @@ pub(crate) enum HeadFault {
     // The closed instants are all that can be counted, and one more is open.
     NoNumber,
     // There are steps, and no instant is open.
-    StraySteps,
+    WrongSteps,
     // A signal is present, and no instant is open, or the routine does not have it.
-    StraySignals,
+    WrongSignals,
 }
 
 impl HeadFault {
@@ -52,8 +52,8 @@ impl HeadFault {
         match self {
             HeadFault::NoPhase => 0,
             HeadFault::NoNumber => CLOSED_OFFSET,
-            HeadFault::StraySteps => STEPS_OFFSET,
-            HeadFault::StraySignals => PRESENT_OFFSET,
+            HeadFault::WrongSteps => STEPS_OFFSET,
+            HeadFault::WrongSignals => PRESENT_OFFSET,
         }
     }
 }
@@ -93,11 +93,11 @@ impl Head {
         match self.phase {
             Phase::Open if self.closed == MOST_INSTANTS => Some(HeadFault::NoNumber),
             Phase::Open => {
-                (u128::from(self.present) >= 1 << signals).then_some(HeadFault::StraySignals)
+                (u128::from(self.present) >= 1 << signals).then_some(HeadFault::WrongSignals)
             }
-            Phase::Resting | Phase::Over if self.steps != 0 => Some(HeadFault::StraySteps),
+            Phase::Resting | Phase::Over if self.steps != 0 => Some(HeadFault::WrongSteps),
             Phase::Resting | Phase::Over => {
-                (self.present != 0).then_some(HeadFault::StraySignals)
+                (self.present != 0).then_some(HeadFault::WrongSignals)
             }
         }
     }
