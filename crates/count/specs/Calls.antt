@@ -130,6 +130,7 @@ closing gs ks s =
       steps = s.steps;
     }
 
+-- the phase after a closed instant: over, if statement 0 was
 abbrev pub phase_after : Bool → Phase
 phase_after true = Over
 phase_after false = Resting
@@ -157,6 +158,7 @@ closing_of closed o = record {
 abbrev pub react_closing : List SignalKind → List Kind → State → ℕ → Closing
 react_closing gs ks s word = closing_of s.closed (instant gs ks s.marks word)
 
+-- the state that it leaves
 abbrev pub rested : ℕ → Outcome → State
 rested closed o = record {
   phase = phase_of o.status;

@@ -14,13 +14,14 @@ use Rattle.count.specs.Calls.{after, begin_refusal, begin_state, step_refusal, s
 use Rattle.count.specs.Calls.{close_refusal, closing, close_state, react_closing, react_state}
 
 module _ {B : Type 0} {G : Ghosts B} where
+  -- the kinds of its statements, and its signals
   abbrev pub kinds_of : Count B G → List Kind
   kinds_of c = kinds_in c.rows
 
   abbrev pub signals_of : Count B G → List SignalKind
   signals_of c = signals_in c.rows
 
-  -- the set is the board's own, in every phase
+  -- its state; the set is the board's own, in every phase
   abbrev pub state_of : (B → List Bool) → Count B G → State
   state_of present c = record {
     phase = c.phase;
@@ -45,6 +46,7 @@ module _ {B : Type 0} {G : Ghosts B} where
     pub signals : signals_of d ≡ signals_of c
     pub kept : IfErr r (λ _. d ≡ c)
 
+  -- begin, step, close, react and take over, each by its definitions in Calls or Taking
   abbrev pub Begins : (B → List Bool) → Count B G → Count B G → ℕ → Result (Unit {0}) Refusal
       → Type 0
   Begins present c d word r =

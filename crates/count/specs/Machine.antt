@@ -40,6 +40,7 @@ leaf_applies Waiting (wait s) h = h
 leaf_applies UnderWay k h = false
 leaf_applies Done k h = false
 
+-- o: whether its first is over
 abbrev pub two_applies : Mark → Two → Bool → Bool → Bool
 two_applies m sequence o h = o
 two_applies m parallel o h = false

@@ -7,6 +7,7 @@ use Rattle.routine.specs.Kinds.{kinds, marks}
 use Rattle.routine.specs.Tree.{Tree, tree_at}
 use Rattle.count.specs.declared.machine.Rows.{Rows}
 
+-- the kinds of the statements, their marks, and the signals
 abbrev pub kinds_in : Rows → List Kind
 kinds_in r = kinds (vec_items r.routine.table.statements)
 
@@ -20,6 +21,7 @@ signals_in r = vec_items r.routine.table.signals
 abbrev pub count_in : Rows → ℕ
 count_in r = vec_len r.routine.table.statements
 
+-- the tree of statement i
 abbrev pub tree_in : Rows → ℕ → Tree
 tree_in r i = tree_at (kinds_in r) i
 

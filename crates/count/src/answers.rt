@@ -9,10 +9,11 @@ use std::fmt;
 pub struct Closing {
     /// Its number; the first has 1.
     pub instant: u32,
-    /// The present outputs: bit s is set where signal s is one.
+    /// The present outputs: bit s is set where signal s is an output and was present.
     pub outputs: u64,
+    /// Whether the routine goes on or is over.
     pub status: Status,
-    /// How many steps were made in it.
+    /// How many steps were made in it, counted up to 65,535.
     pub steps: u16,
 }
 

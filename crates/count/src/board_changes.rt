@@ -22,9 +22,8 @@ pub struct Moved<A, B: Board> {
 /// Brings the count to another board, by its record: its state is the same. It is never refused.
 pub fn change_board<A: Board, B: Board>(count: Count<A>, board: B) -> Moved<A, B>
     ensures accepted { taking_refusal (signals_of count) (kinds_of count) result.handed ≡ None }
-    ensures handed { result.handed
-        ≡ record_of (length (signals_of count)) (length (kinds_of count))
-        (state_of A.present count) }
+    ensures handed { result.handed ≡ record_of
+        (length (signals_of count)) (length (kinds_of count)) (state_of A.present count) }
     ensures state { state_of B.present result.count ≡ state_of A.present count }
     ensures kinds { kinds_of result.count ≡ kinds_of count }
     ensures signals { signals_of result.count ≡ signals_of count }

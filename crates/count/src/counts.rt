@@ -48,7 +48,7 @@ impl<B: Board> Count<B> {
     ghost use Rattle.count.specs.CountView.{kinds_of, signals_of, state_of};
 
     /// A count at its start, of any routine and on any board: statement 0 is begun, all else is
-    /// idle, no signal is present.
+    /// idle, no signal is present. Marks that the routine had and signals of the board are dropped.
     pub fn new(routine: Routine, mut board: B) -> Count<B>
         ensures kinds { kinds_of result ≡ table_kinds routine.table }
         ensures signals { signals_of result ≡ table_signals routine.table }
@@ -88,14 +88,14 @@ impl<B: Board> Count<B> {
         self.steps
     }
 
-    /// How many statements the routine has.
+    /// How many statements the routine has, 1 to `MOST_STATEMENTS`.
     pub fn statements(&self) -> usize
         ensures { result ≡ length (kinds_of self.now) }
     {
         self.rows.routine.count()
     }
 
-    /// How many signals the routine has.
+    /// How many signals the routine has, 0 to `MOST_SIGNALS`.
     pub fn signals(&self) -> usize
         ensures { result ≡ length (signals_of self.now) }
     {
@@ -104,8 +104,8 @@ impl<B: Board> Count<B> {
 
     /// The mark of statement i, if there is one of that number.
     pub fn mark(&self, i: usize) -> Option<Mark>
-        ensures { result ≡ (if nat_lt i (length (kinds_of self.now)) then Some
-            (at (state_of B.present self.now).marks i) else None) }
+        ensures { result ≡ (if nat_lt i (length (kinds_of self.now))
+            then Some (at (state_of B.present self.now).marks i) else None) }
     {
         (i < self.rows.routine.count()).then(|| self.rows.mark(i))
     }
@@ -120,20 +120,20 @@ impl<B: Board> Count<B> {
 
     /// Is statement k ready? Only in an open instant can it be stepped.
     pub fn is_ready(&self, k: usize) -> bool
-        ensures { result ≡ ready (tree_at (kinds_of self.now) 0) (state_of B.present self.now).marks
-            (state_of B.present self.now).present k }
+        ensures { result ≡ ready (tree_at (kinds_of self.now) 0)
+            (state_of B.present self.now).marks (state_of B.present self.now).present k }
     {
         self.is_ready_inside(0, k)
     }
 
     /// The lowest ready statement, which is the lowest whose own rule applies.
     pub fn lowest_ready(&self) -> Option<usize>
-        ensures ready { result ≡ lowest
-            (ready (tree_at (kinds_of self.now) 0) (state_of B.present self.now).marks
-            (state_of B.present self.now).present) (length (kinds_of self.now)) }
-        ensures by_rule { result
-            ≡ lowest (λ i. rule (tree_at (kinds_of self.now) i) (state_of B.present self.now).marks
-            (state_of B.present self.now).present) (length (kinds_of self.now)) }
+        ensures ready { result ≡ lowest (ready (tree_at (kinds_of self.now) 0)
+            (state_of B.present self.now).marks (state_of B.present self.now).present)
+            (length (kinds_of self.now)) }
+        ensures by_rule { result ≡ lowest (λ i. rule (tree_at (kinds_of self.now) i)
+            (state_of B.present self.now).marks (state_of B.present self.now).present)
+            (length (kinds_of self.now)) }
     {
         (0..self.statements()).find(|i| self.rule_applies(*i))
     }

@@ -32,12 +32,12 @@ impl Rows {
             .map_or(0, |waiter| usize::from(*waiter))
     }
 
-    // From where on a rule can apply after the step of statement k that did not; before it, none
-    // below b applies but maybe that of k, and `own_signal_present` says whether the signal of k
-    // was present.
+    // Where the search goes on after the step of statement k, the lowest ready one: below that
+    // number no rule applies but maybe that of its guard. Before the step none below `b` applied
+    // but maybe that of k, and `own_signal_present` says whether the signal of k was present then.
     fn from_after(&self, b: usize, k: usize, own_signal_present: bool) -> usize
-        ensures { result ≡ front_after
-            (shape_at (kinds_in self.now) k) self.now.waiters own_signal_present b k }
+        ensures { result ≡ front_after (shape_at (kinds_in self.now) k)
+            self.now.waiters own_signal_present b k }
     {
         match self.kind(k) {
             Kind::Loop { .. } | Kind::Local { .. } => k,
@@ -55,9 +55,8 @@ impl Rows {
 
     // The front after the step of statement k, the lowest ready one, where it was `front` before.
     pub(crate) fn front_after(&self, front: Front, k: usize, own_signal_present: bool) -> Front
-        ensures from { result.from
-            ≡ front_after (shape_at (kinds_in self.now) k) self.now.waiters own_signal_present
-            (max front.from k) k }
+        ensures from { result.from ≡ front_after (shape_at (kinds_in self.now) k)
+            self.now.waiters own_signal_present (max front.from k) k }
         ensures guard { result.guard ≡ entry self.now.guards k }
     {
         Front {

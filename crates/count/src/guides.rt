@@ -5,7 +5,7 @@ ghost use Rattle.count.specs.Front.{Guards, Waiters, with_guards, with_waiter};
 
 use routine::{Kind, MOST_SIGNALS, MOST_STATEMENTS, Routine};
 
-// Writes the guards of the parts of statement i, which is of that kind.
+// Writes the guards of the parts of statement i, which is of that kind and has its own already.
 fn guard_parts(guards: &mut [u8; MOST_STATEMENTS], i: usize, kind: Kind)
     requires { i < MOST_STATEMENTS }
     ensures { guards.new ≡ with_guards guards.old i (shape kind) }
@@ -39,7 +39,7 @@ pub(crate) fn guards_of(routine: &Routine) -> [u8; MOST_STATEMENTS]
     guards
 }
 
-// Statement i, of that kind, may be the lowest that awaits its signal.
+// Writes statement i, of that kind, where it is the lowest so far that awaits its signal.
 #[tactic(auto, using(std::proofs::lemmas::List::set_past))]
 fn await_signal(waiters: &mut [u8; MOST_SIGNALS], i: usize, kind: Kind)
     requires { i < MOST_STATEMENTS }

@@ -61,9 +61,8 @@ impl<B: Board> Count<B> {
     ///
     /// The count is used up, and its routine and its board are given back as they are.
     pub fn hand_over(self, place: &mut [u8; RECORD_BYTES]) -> Released<B>
-        ensures record { place.new
-            ≡ record_of (length (signals_of self)) (length (kinds_of self))
-            (state_of B.present self) }
+        ensures record { place.new ≡ record_of
+            (length (signals_of self)) (length (kinds_of self)) (state_of B.present self) }
         ensures accepted { taking_refusal (signals_of self) (kinds_of self) place.new ≡ None }
         ensures board { result.board ≡ self.board }
         ensures routine { result.routine ≡ self.rows.routine }

@@ -82,8 +82,8 @@ impl<B: Board> Count<B> {
     fn may_step(&self, k: usize) -> Result<(), Refusal>
         ensures can { OnOk result
             ((is_open self.now.phase ≡ true)
-            × (ready (tree_in self.now.rows 0) (marks_in self.now.rows) (B.present self.now.board) k
-            ≡ true)) }
+            × (ready (tree_in self.now.rows 0) (marks_in self.now.rows)
+            (B.present self.now.board) k ≡ true)) }
         ensures why { result ≡ answer
             (step_refusal (kinds_of self.now) (state_of B.present self.now) k) tt }
     {

@@ -25,7 +25,7 @@ impl<B: Board> Count<B> {
         ensures turns { result ≡ (state_of B.present self.new).steps }
         ensures routine { SameRoutine self.old self.new }
     {
-        // Each turn is a step, so the most steps of an instant bound the loop.
+        // Each turn is a step, and no instant has more than 4 for each statement.
         let most = 4 * self.rows.routine.count();
         let mut front = Front { from: 0, guard: 0 };
         for turn in 0..most {
@@ -44,12 +44,11 @@ impl<B: Board> Count<B> {
     /// Refused as by [`react`](Count::react): then the tracer is unchanged too.
     pub fn react_traced<T: Tracer>(&mut self, word: u64, tracer: &mut T) -> Result<Closing, Refusal>
         ensures reacts { Reacts B.present self.old self.new word result }
-        ensures told { IfOk result
-            (λ closing. Extends (T.trace tracer.old) (T.trace tracer.new)
+        ensures told { IfOk result (λ closing. Extends (T.trace tracer.old) (T.trace tracer.new)
             (steps_from (kinds_of self.old) (begin_state (state_of B.present self.old) word))) }
-        ensures turns { IfOk result
-            (λ closing. length (steps_from (kinds_of self.old)
-            (begin_state (state_of B.present self.old) word)) ≡ closing.steps) }
+        ensures turns { IfOk result (λ closing. length
+            (steps_from (kinds_of self.old) (begin_state (state_of B.present self.old) word))
+            ≡ closing.steps) }
         ensures refused { IfErr result (λ _. tracer.new ≡ tracer.old) }
     {
         self.begin(word)?;

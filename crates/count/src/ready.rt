@@ -47,7 +47,7 @@ impl<B: Board> Count<B> {
         front.guard < front.from && self.rule_applies(front.guard)
     }
 
-    // The lowest ready statement.
+    // The lowest ready statement, searched from the front on.
     pub(crate) fn ready_from(&self, front: Front) -> Option<usize>
         requires { QuietBelow (kinds_of self.now) (marks_in self.now.rows)
             (B.present self.now.board) front.from front.guard }

@@ -4,7 +4,7 @@ ghost use Rattle.count.specs.Traces.{Trace, Extends, row_trace};
 use arrayvec::ArrayVec;
 use routine::MOST_STATEMENTS;
 
-/// Who is told of each turn of a reaction.
+/// Who is told of each turn of a reaction. A turn is a step of the lowest ready statement.
 pub trait Tracer {
     // The statements told so far, whether some are missing, and for how many more there is room.
     ghost trace: { Self → Trace };
@@ -24,13 +24,15 @@ impl Tracer for Untraced {
     fn step(&mut self, _statement: usize) {}
 }
 
-/// How many steps an instant can have, in any routine: 4 for each statement.
+/// No instant of any routine has more steps than this: 4 for each statement.
 pub const MOST_STEPS: usize = 4 * MOST_STATEMENTS;
 
-/// Keeps the statements of one reaction, for which it always has room. It allocates nothing.
+/// A tracer that keeps the statements of one reaction, for which it always has room. It allocates
+/// nothing.
 #[derive(Debug, Drop)]
 pub struct StepRow {
     steps: ArrayVec<usize, MOST_STEPS>,
+    // There was no room for some statement.
     lost: bool,
 }
 
@@ -45,7 +47,7 @@ impl StepRow {
         }
     }
 
-    /// The statements that it was told of, the latest last.
+    /// The statements that it was told of, the latest last, but for those that it had no room for.
     pub fn steps(&self) -> &[usize]
         ensures { result.now ≡ (row_trace self.now).steps }
     {

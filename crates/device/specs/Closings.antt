@@ -24,6 +24,7 @@ abbrev pub onto : List Closing → Reply → Reply
 onto cs (Ok ds) = Ok (cs ++ ds)
 onto cs (Err e) = Err e
 
+-- a word's refusal, or its closing and then those of a reply
 abbrev pub answered : Option Refusal → Closing → Reply → Reply
 answered None c later = onto (c ∷ []) later
 answered (Some e) c later = Err e
@@ -35,6 +36,7 @@ closings gs ks s (w ∷ ws) =
     answered (begin_refusal gs s w) (react_closing gs ks s w)
     (closings gs ks (react_state gs ks s w) ws)
 
+-- the closings of a new count of what was loaded
 abbrev pub of_new : Result (List SignalKind × List Statement) Refusal → List ℕ → Reply
 of_new (Ok p) ws = closings p.0 (kinds p.1) (new_state (kinds p.1)) ws
 of_new (Err e) ws = Err e
@@ -48,7 +50,7 @@ abbrev pub IsOrMemory : {A B : Type 0} → Result A Refusal → (B → A) → Re
 IsOrMemory d view r = MatchResult r (λ x. d ≡ Ok (view x)) (λ e. (e ≡ Memory) ⊎ (d ≡ Err e))
 
 module _ {B : Type 0} {G : Ghosts B} (present : B → List Bool) where
-  -- those closings, and then what c answers to the words
+  -- the closings cs, and then what c answers to the words
   abbrev pub told : List Closing → Count B G → List ℕ → Reply
   told cs c ws = onto cs (closings (signals_of c) (kinds_of c) (state_of present c) ws)
 
@@ -58,7 +60,7 @@ module _ {B : Type 0} {G : Ghosts B} (present : B → List Bool) where
     pub routine : SameRoutine c d
     pub told : (more : List ℕ) → told cs c (ws ++ more) ≡ told ds d more
 
-  -- or else there is no memory, or a word is refused
+  -- c reacted to all the words so, or there is no memory, or a word is refused
   abbrev pub ReactsAll : Count B G → Count B G → List ℕ → List Closing → List Closing
       → Result (Unit {0}) Refusal → Type 0
   ReactsAll c d ws cs ds r =

@@ -10,7 +10,8 @@ use routine::{Refusal, load};
 use signals::Board;
 use std::alloc::Global;
 
-/// Reacts to each of the words and keeps the closings, which come after those that are there.
+/// Reacts to each of the words and keeps the closings, which come after those that are there. It
+/// stops at the first word that is refused, or where there is no memory.
 fn react_all<B: Board>(
     count: &mut Count<B>,
     words: &[u64],
@@ -37,6 +38,9 @@ fn into_record<B: Board + Drop>(count: Count<B>) -> [u8; RECORD_BYTES]
 
 /// The closings of two devices that have the same table: the first reacts to the words before and
 /// hands its count over by the record, the second takes it over and reacts to the later words.
+///
+/// `Err` is the refusal that one device would answer to the table and to all the words, or
+/// `Memory`. A table that is refused is refused so whatever memory there is.
 pub fn react_on_two<A: Board + Drop, B: Board + Drop>(
     heap: Global,
     table: &[u8],

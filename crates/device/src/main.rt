@@ -24,7 +24,7 @@ const TABLE: [u8; 34] = [
 fn advice(refusal: &Refusal) -> &'static str {
     match refusal.layer() {
         Some(1 | 2) => "get the routine again",
-        Some(3) => "give another word",
+        Some(3) => "look where the count stands",
         Some(4) => "get the record again",
         _ => "wait until there is memory",
     }

@@ -17,7 +17,7 @@ use routine::{Refusal, Routine, load};
 use signals::{BitBoard, Board, StampBoard};
 use std::alloc::{AllocError, Global};
 
-// Are the lines of both relays' closed instants the same?
+// The verdict: whether the lines of both relays' closed instants are the same.
 #[tactic(auto, unfolding(crate::specs::Story::verdict))]
 fn write_verdict(out: &mut String, same: bool) -> Result<(), AllocError>
     ensures { OnOk result (string_bytes out.new ≡ string_bytes out.old ++ verdict same) }
@@ -137,7 +137,7 @@ fn write_relays(
 
 /// What there is to print of the input's bytes: the refusal of the table, or two relays of its
 /// routine and the verdict whether their closed instants are the same. A table that is no routine
-/// is refused whatever memory there is.
+/// is refused whatever memory there is; `Err` is want of memory.
 pub fn story(heap: Global, bytes: &[u8]) -> Result<Printed, AllocError>
     ensures says { SaysOrMemory (story_of bytes.now) said result }
     ensures same { IfOk result (SaysSame (load_of (table_part bytes.now)) (rest_part bytes.now)) }

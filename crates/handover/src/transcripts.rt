@@ -23,6 +23,7 @@ pub(crate) struct Transcript {
 }
 
 impl Transcript {
+    // A transcript of no event.
     fn new(heap: Global) -> Transcript
         ensures text { string_bytes result.text ≡ [] }
         ensures instants { string_bytes result.instants ≡ [] }
@@ -76,7 +77,7 @@ impl Transcript {
         }
     }
 
-    // What was stepped in the open instant, after the event.
+    // Brings `stepped` to what was stepped in the open instant after the event.
     fn follow(&mut self, event: &Event) -> Result<(), AllocError>
         ensures stepped { OnOk result
             (vec_items self.new.stepped
@@ -113,6 +114,7 @@ impl Transcript {
         self.follow(event)
     }
 
+    // The events, one after another.
     fn write_all(&mut self, statements: usize, events: &[Event]) -> Result<(), AllocError>
         ensures { OnOk result (WritesEvents statements self.old self.new (map tells events.now)) }
     {

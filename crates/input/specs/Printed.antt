@@ -16,5 +16,6 @@ abbrev pub in_print : Result (List ℕ) Refusal → List ℕ
 in_print (Ok text) = text
 in_print (Err e) = refusal_line e ++ line_end
 
+-- what is printed
 abbrev pub printed_text : Printed → List ℕ
 printed_text p = in_print (said p)

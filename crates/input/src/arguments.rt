@@ -9,9 +9,11 @@ use std::fmt;
 /// An argument of a program that takes none.
 #[derive(Debug, Drop)]
 pub struct UnknownArgument {
+    /// The argument, as it was given.
     pub argument: String,
 }
 
+/// That no arguments are taken, and the one that was given.
 // The argument comes last, since an error of a program cuts a long text.
 impl fmt::Display for UnknownArgument {
     ghost output = { λ e. Some (argument_text e) };

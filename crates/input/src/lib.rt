@@ -16,7 +16,7 @@ use std::io::Read;
 pub const MOST_INPUT_BYTES: u64 = 65_536;
 
 /// Reads a program's input to its end, or its first `MOST_INPUT_BYTES` bytes; what follows them is
-/// not read.
+/// not read. `Err` is that of the reader, or want of memory.
 pub fn read_input<R: Read + Drop>(heap: Global, input: R) -> io::Result<Vec<u8>>
     ensures { IfOk result (λ bytes. IfSome (R.remaining input)
         (λ all. bytes.items ≡ take MOST_INPUT_BYTES all)) }

@@ -8,10 +8,13 @@ use std::fmt;
 /// text of what was done with it.
 #[derive(Debug, Drop)]
 pub enum Printed {
+    /// The table is no routine.
     Refused { refusal: Refusal },
+    /// The whole text, which is printed as it is.
     Lines { text: String },
 }
 
+/// The text, or a line for the refusal.
 impl fmt::Display for Printed {
     ghost output = { λ p. Some (printed_text p) };
 

@@ -101,7 +101,7 @@ module _ (gs : List SignalKind) (ks : List Kind) (bytes : List ℕ)
   pub long : length bytes ≡ RECORD_BYTES
   long = (formed (length ks) bytes three.0).0
 
-  -- where they have no choice they are right
+  -- the contents and the zeros are right
   pub fixed : (i : ℕ) → i < RECORD_BYTES → is_fixed (length ks) i ≡ true
       → get_or bytes i 0 ≡ get_or (contents (length ks)) i 0
   fixed = fixed_right (length ks) bytes (formed (length ks) bytes three.0).1

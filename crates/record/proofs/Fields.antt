@@ -12,7 +12,7 @@ use Rattle.record.specs.declared.phases.Phase.{Phase}
 use Rattle.record.specs.declared.phases.Phase.TheVariants.{Resting, Open, Over}
 use Rattle.record.specs.declared.heads.Head.{Head}
 use Rattle.record.specs.declared.heads.HeadFault.{HeadFault}
-use Rattle.record.specs.declared.heads.HeadFault.TheVariants.{NoNumber, StraySteps, StraySignals}
+use Rattle.record.specs.declared.heads.HeadFault.TheVariants.{NoNumber, WrongSteps, WrongSignals}
 use Rattle.record.specs.declared.heads.TheConstants.{MOST_INSTANTS}
 use Rattle.record.specs.declared.layout.TheConstants.{HEAD_BYTES, HEAD_START, MARKS_START}
 use Rattle.record.specs.Record.{phase_byte, mark_byte, head_bytes}
@@ -88,17 +88,17 @@ stops false o k e = (refl, e)
 -- a head without a fault: outside an open instant its steps and its present word are 0
 pub still_zeros : (h : Head) → still_fault h ≡ None → (h.steps ≡ 0) × (h.present ≡ 0)
 still_zeros h e =
-    let p = passes (h.steps == 0) (cond (h.present == 0) None (Some StraySignals)) StraySteps e in
-    (eqb-true h.steps 0 p.0, eqb-true h.present 0 (passes (h.present == 0) None StraySignals p.1).0)
+    let p = passes (h.steps == 0) (cond (h.present == 0) None (Some WrongSignals)) WrongSteps e in
+    (eqb-true h.steps 0 p.0, eqb-true h.present 0 (passes (h.present == 0) None WrongSignals p.1).0)
 
 -- and in one it has a number, and the present word is below 2 ^ g
 pub open_bounds : (g : ℕ) (h : Head) → open_fault g h ≡ None
     → (h.closed ≡ MOST_INSTANTS → ⊥) × (h.present < 2 ^ g)
 open_bounds g h e =
     let p = stops (h.closed == MOST_INSTANTS)
-    (cond (nat_lt h.present (2 ^ g)) None (Some StraySignals)) NoNumber e in (
+    (cond (nat_lt h.present (2 ^ g)) None (Some WrongSignals)) NoNumber e in (
       eqb-false h.closed MOST_INSTANTS p.0,
-      ltb-true h.present (2 ^ g) (passes (nat_lt h.present (2 ^ g)) None StraySignals p.1).0,
+      ltb-true h.present (2 ^ g) (passes (nat_lt h.present (2 ^ g)) None WrongSignals p.1).0,
     )
 
 -- the numbers of a part are bytes too

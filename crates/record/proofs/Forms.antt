@@ -25,7 +25,7 @@ use Rattle.record.specs.Taking.{is_fixed_right, has_form, head_in, head_fault, m
 use Rattle.record.specs.Taking.{marks_fault, taking_by, taking_refusal, saved_in}
 use Rattle.record.proofs.Lists.{read_cut}
 
--- bytes that are wrong at a place where they have no choice have not the form
+-- bytes that are wrong at a place where all records have the same have not the form
 pub misformed : (n : ℕ) (bytes : List ℕ) → is_fixed_right n bytes ≡ false → has_form n bytes ≡ false
 unfolding has_form
 misformed n bytes h = and_right (length bytes == RECORD_BYTES) (is_fixed_right n bytes) h

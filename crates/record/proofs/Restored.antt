@@ -25,7 +25,7 @@ use Rattle.record.specs.declared.phases.Phase.{Phase}
 use Rattle.record.specs.declared.phases.Phase.TheVariants.{Resting, Open, Over}
 use Rattle.record.specs.declared.heads.Head.{Head}
 use Rattle.record.specs.declared.heads.HeadFault.{HeadFault}
-use Rattle.record.specs.declared.heads.HeadFault.TheVariants.{NoNumber, StraySignals}
+use Rattle.record.specs.declared.heads.HeadFault.TheVariants.{NoNumber, WrongSignals}
 use Rattle.record.specs.declared.heads.TheConstants.{MOST_INSTANTS}
 use Rattle.record.specs.declared.layout.TheConstants.{HEAD_START, HEAD_BYTES, MARKS_START}
 use Rattle.record.specs.declared.layout.TheConstants.{RECORD_BYTES}
@@ -163,9 +163,9 @@ no_fault Open g closed steps e room =
     let r = room refl in
     let w = word_from (λ s. get_or e s false) g 0 in
     cond-false (closed == MOST_INSTANTS) (Some NoNumber)
-    (cond (nat_lt w (2 ^ g)) None (Some StraySignals))
+    (cond (nat_lt w (2 ^ g)) None (Some WrongSignals))
     (ne_eqb closed MOST_INSTANTS (λ q. absurd (omega arith)))
-    ∙ cond-true (nat_lt w (2 ^ g)) None (Some StraySignals)
+    ∙ cond-true (nat_lt w (2 ^ g)) None (Some WrongSignals)
     (lt-ltb w (2 ^ g) (word_below (λ s. get_or e s false) g 0))
 no_fault Over g closed steps e room = refl
 

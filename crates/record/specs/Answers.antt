@@ -1,4 +1,4 @@
--- what a call answers
+-- an answer that is a refusal or a value
 use Rattle.std.specs.Prelude.{Some, None, Ok, Err, Option, Result}
 
 -- refused for a reason, or else x

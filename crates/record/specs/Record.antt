@@ -11,6 +11,7 @@ use Rattle.record.specs.declared.heads.Head.{Head}
 use Rattle.record.specs.declared.layout.TheConstants.{HEAD_START, HEAD_BYTES, MARKS_START}
 use Rattle.record.specs.State.{State}
 
+-- a phase and a mark, by the numbers of docs/LANGUAGE.md
 abbrev pub phase_byte : Phase → ℕ
 phase_byte Resting = 0
 phase_byte Open = 1
@@ -27,12 +28,13 @@ abbrev pub contents : ℕ → List ℕ
 contents n = to_le_bytes w16 HEAD_START
     ++ (to_le_bytes w16 HEAD_BYTES ++ (to_le_bytes w16 MARKS_START ++ to_le_bytes w16 n))
 
--- in an open instant its steps, and the word of the present signals below g; else 0
+-- the steps that stand in a record: those of the open instant; outside one 0
 abbrev pub steps_written : Phase → ℕ → ℕ
 steps_written Resting steps = 0
 steps_written Open steps = steps
 steps_written Over steps = 0
 
+-- and the present word: the present signals below g; outside an open instant 0
 abbrev pub word_written : Phase → ℕ → Signals → ℕ
 word_written Resting g e = 0
 word_written Open g e = word_from (λ s. slice_index_or e s false) g 0
@@ -43,6 +45,7 @@ abbrev pub head_bytes : Head → List ℕ
 head_bytes h = phase_byte h.phase
     ∷ (to_le_bytes w32 h.closed ++ (to_le_bytes w16 h.steps ++ to_le_bytes w64 h.present))
 
+-- the head of the record of a state, with g signals
 abbrev pub head_of : ℕ → State → Head
 head_of g s = record {
   phase = s.phase;
@@ -55,6 +58,7 @@ head_of g s = record {
 abbrev pub mark_bytes : ℕ → List Mark → List ℕ
 mark_bytes n ms = map mark_byte ms ++ replicate (MOST_STATEMENTS - n) 0
 
+-- the record: contents, head, marks
 unfoldable pub written : ℕ → Head → List Mark → List ℕ
 written n h ms = contents n ++ (head_bytes h ++ mark_bytes n ms)
 

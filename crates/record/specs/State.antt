@@ -5,7 +5,11 @@ use Rattle.record.specs.declared.phases.Phase.{Phase}
 
 pub record State : Type 0 where
   pub phase : Phase
+  -- how many instants are closed
   pub closed : ℕ
+  -- the steps of the open instant
   pub steps : ℕ
+  -- a mark for each statement
   pub marks : List Mark
+  -- the present signals
   pub present : Signals

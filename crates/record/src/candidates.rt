@@ -34,6 +34,7 @@ impl Candidate<'_> {
         marks::counted(self.read(i))
     }
 
+    // Is statement i live to the rules of others?
     fn is_live(&self, i: usize) -> bool
         ensures { result ≡ is_live (at (map counted self.now.marks.now) i) }
     {

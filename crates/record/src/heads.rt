@@ -21,23 +21,27 @@ pub(crate) const PRESENT_OFFSET: usize = 7;
 /// What a count is at, but for its marks: the head of its record.
 #[derive(Clone, Copy, Debug, PartialEq, Eq)]
 pub struct Head {
+    /// Where the count stands.
     pub phase: Phase,
     /// How many instants are closed.
     pub closed: u32,
-    /// The steps of the open instant.
+    /// The steps of the open instant, 0 outside one.
     pub steps: u16,
-    /// The present signals: bit s is set where signal s is present.
+    /// The present signals: bit s is set where signal s is present. Outside an open instant 0.
     pub present: u64,
 }
 
 // What is wrong with a field of a head, so that no count has it.
 #[derive(Clone, Copy, Debug, PartialEq, Eq)]
 pub(crate) enum HeadFault {
+    // The byte of the phase is none.
     NoPhase,
     // The closed instants are all that can be counted, and one more is open.
     NoNumber,
-    StraySteps,
-    StraySignals,
+    // There are steps, and no instant is open.
+    WrongSteps,
+    // A signal is present, and no instant is open, or the routine does not have it.
+    WrongSignals,
 }
 
 impl HeadFault {
@@ -48,13 +52,14 @@ impl HeadFault {
         match self {
             HeadFault::NoPhase => 0,
             HeadFault::NoNumber => CLOSED_OFFSET,
-            HeadFault::StraySteps => STEPS_OFFSET,
-            HeadFault::StraySignals => PRESENT_OFFSET,
+            HeadFault::WrongSteps => STEPS_OFFSET,
+            HeadFault::WrongSignals => PRESENT_OFFSET,
         }
     }
 }
 
 impl Head {
+    // The bytes of the head in a record.
     pub(crate) fn to_bytes(&self) -> [u8; HEAD_BYTES]
         ensures { result ≡ head_bytes self.now }
     {
@@ -80,7 +85,7 @@ impl Head {
         ]
     }
 
-    // What is wrong with the first field that no head of a routine with so many signals has.
+    // What is wrong with the first bad field, for a routine with so many signals.
     pub(crate) fn fault(&self, signals: usize) -> Option<HeadFault>
         requires { signals ≤ MOST_SIGNALS }
         ensures { result ≡ fault_by self.now.phase signals self.now }
@@ -88,11 +93,11 @@ impl Head {
         match self.phase {
             Phase::Open if self.closed == MOST_INSTANTS => Some(HeadFault::NoNumber),
             Phase::Open => {
-                (u128::from(self.present) >= 1 << signals).then_some(HeadFault::StraySignals)
+                (u128::from(self.present) >= 1 << signals).then_some(HeadFault::WrongSignals)
             }
-            Phase::Resting | Phase::Over if self.steps != 0 => Some(HeadFault::StraySteps),
+            Phase::Resting | Phase::Over if self.steps != 0 => Some(HeadFault::WrongSteps),
             Phase::Resting | Phase::Over => {
-                (self.present != 0).then_some(HeadFault::StraySignals)
+                (self.present != 0).then_some(HeadFault::WrongSignals)
             }
         }
     }

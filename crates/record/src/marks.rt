@@ -29,7 +29,7 @@ pub(crate) fn from_byte(byte: u8) -> Option<Mark>
     }
 }
 
-// What it is to the rules of other statements.
+// What it is to the rules of other statements: no mark counts as a live one.
 pub(crate) fn counted(mark: Option<Mark>) -> Mark
     ensures { result ≡ counted mark }
 {

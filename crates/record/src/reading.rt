@@ -15,6 +15,7 @@ use routine::{MOST_STATEMENTS, Mark, Refusal, Routine};
 /// What a record says.
 #[derive(Clone, Copy, Debug, PartialEq, Eq)]
 pub struct Saved {
+    /// All but the marks.
     pub head: Head,
     /// The mark of each statement, idle beyond the last one.
     pub marks: [Mark; MOST_STATEMENTS],

@@ -16,7 +16,9 @@ use routine::Routine;
 /// phase over statement 0 is over.
 #[derive(Clone, Copy, Debug)]
 pub struct Standing<'a> {
+    /// All but the marks.
     pub head: Head,
+    /// The routine, whose statements have the marks.
     pub routine: &'a Routine,
     ghost faultless: { fault_by head.phase (length (table_signals routine.now.table)) head ≡ None },
     ghost legal: { ((i : ℕ) → i < length (table_kinds routine.now.table)

@@ -30,7 +30,7 @@ path_short ks (suc n) c =
     first_then_short n (lowest_ready ks c) (λ i. path ks n (stepped ks c i))
     (λ i. path_short ks n (stepped ks c i))
 
--- an empty row of 1024 places has heard all of it
+-- an empty row with a place for each step of an instant was told all of it
 pub all_heard : (ks : List Kind) → length ks ≤ 256 → (s : State) (old new : Trace)
     → old ≡ record { steps = []; lost = false; room = 1024 } → Extends old new (steps_from ks s)
     → new.steps ≡ steps_from ks s

@@ -19,7 +19,7 @@ asked Close = close
 asked (React word) = react word
 asked (TakeOver bytes) = take_over bytes.now
 
--- the record in it, if it has one, is of bytes
+-- the record in it, if it has one, has numbers below 256 only
 abbrev pub of_bytes : Asked → Type 0
 of_bytes (begin word) = Unit {0}
 of_bytes (step k) = Unit {0}

@@ -8,7 +8,8 @@ use crate::news::News;
 use count::{Count, StepRow};
 use signals::Board;
 
-// Each of these makes a call on the count and tells the listener what it came to.
+// This function and the four below it each make one call on the count and tell the listener what
+// it came to.
 fn begin<B: Board, L: Listener>(count: &mut Count<B>, word: u64, listener: &mut L)
     ensures { Tells B.present count.old count.new (begin word)
         (L.ear listener.old) (L.ear listener.new) }

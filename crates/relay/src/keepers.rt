@@ -18,13 +18,14 @@ pub struct Keeper {
     lost: bool,
 }
 
+// The marks of the statements.
 fn marks_of(heap: Global, statements: &[Statement]) -> Result<Vec<Mark>, AllocError>
     ensures { IfOk result (λ ms. vec_items ms ≡ marks statements.now) }
 {
     statements.iter().map(|row| row.mark).collect(heap)
 }
 
-// What was heard, to be kept.
+// What was heard, as it is kept.
 fn event(heap: Global, news: News<'_>) -> Result<Event, AllocError>
     ensures { IfOk result (λ e. tells e ≡ hears news.entry) }
 {
@@ -66,6 +67,7 @@ impl Keeper {
         }
     }
 
+    // Keeps what was heard; `Err` is want of memory.
     fn keep(&mut self, news: News<'_>) -> Result<(), AllocError>
         ensures grows { IfOk result
             (λ _. Grows (ear_of self.old) (ear_of self.new) (hears news.entry ∷ [])) }

@@ -97,8 +97,10 @@ pub fn relay<A: Board, B: Board, K: Listener, L: Listener>(
 }
 
 /// Two relays of one routine, each on two boards of its own and with two lists of calls of its own.
-/// Where both accept the same first words, the closed instants of those words are the same
-/// (`law`).
+/// `k` and `l` hear the first relay, `m` and `n` the second. Where both accept the same first
+/// words, the closed instants of those words are the same (`law`); that claims nothing where a
+/// listener lost something, or a take over was accepted but that of the record. The routine is
+/// given back with the marks that the second relay left.
 pub fn relay_twice<
     A: Board,
     B: Board,

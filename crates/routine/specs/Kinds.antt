@@ -7,9 +7,11 @@ use Rattle.routine.specs.declared.kinds.Mark.{Mark}
 use Rattle.routine.specs.declared.kinds.Mark.TheVariants.{Idle}
 use Rattle.routine.specs.declared.kinds.Statement.{Statement}
 
+-- what each statement of a table is
 abbrev pub kinds : List Statement → List Kind
 kinds ss = map (λ (x : Statement). x.kind) ss
 
+-- the mark of each
 abbrev pub marks : List Statement → List Mark
 marks ss = map (λ (x : Statement). x.mark) ss
 
@@ -22,12 +24,12 @@ pub data Leaf : Type 0 where
   nothing stop : Leaf
   emit wait : ℕ → Leaf
 
--- with one
+-- a statement with one part
 pub data One : Type 0 where
   loop : One
   kill local : ℕ → One
 
--- and with two
+-- a statement with two parts
 pub data Two : Type 0 where
   sequence parallel : Two
   when : ℕ → Two
@@ -38,6 +40,7 @@ pub data Shape : Type 0 where
   one_part : One → ℕ → Shape
   two_parts : Two → ℕ → ℕ → Shape
 
+-- a statement by the number of its parts: what the rules go by
 abbrev pub shape : Kind → Shape
 shape Nothing = no_part nothing
 shape Stop = no_part stop
@@ -50,7 +53,7 @@ shape (When s a b) = two_parts (when s) a b
 shape (Kill s a) = one_part (kill s) a
 shape (Local s a) = one_part (local s) a
 
--- statement i of a table
+-- statement i of a table, nothing where there is none
 abbrev pub kind_at : List Kind → ℕ → Kind
 kind_at ks i = slice_index_or ks i Nothing
 

@@ -58,7 +58,7 @@ spelled k s a b =
     (cond (k == 8 && b == 0) (Some (Kill s a))
     (cond (k == 9 && b == 0) (Some (Local s a)) None)))))))))
 
--- and what a record of four bytes does
+-- the same of a record, a list of four bytes
 abbrev pub said_by : List ℕ → Option Kind
 said_by r = spelled (slice_index r 0) (slice_index r 1) (slice_index r 2) (slice_index r 3)
 
@@ -79,11 +79,12 @@ fits g n i (When s a b) = nat_lt s g && (rises n i a && rises n i b)
 fits g n i (Kill s a) = nat_lt s g && rises n i a
 fits g n i (Local s a) = nat_lt s g && rises n i a
 
+-- the statement of a record, if the record says one and its fields fit; no count has begun it
 abbrev pub fitting : ℕ → ℕ → ℕ → Option Kind → Option Statement
 fitting g n i None = None
 fitting g n i (Some k) = cond (fits g n i k) (Some (fresh k)) None
 
--- what all entries say: the first that says nothing gives its refusal
+-- one entry before later ones: the first of all that says nothing gives its refusal
 abbrev pub onto : {A : Type 0} → Refusal → Option A → Result (List A) Refusal
     → Result (List A) Refusal
 onto e None later = Err e
@@ -105,17 +106,20 @@ records_from g n i (k ∷ (s ∷ (a ∷ []))) = Ok []
 records_from g n i (k ∷ (s ∷ (a ∷ (b ∷ rest)))) =
     onto (StatementRecord i) (fitting g n i (spelled k s a b)) (records_from g n (i + 1) rest)
 
+-- the bytes of the signals, and those of the statements
 abbrev pub signal_bytes : List ℕ → List ℕ
 signal_bytes bytes = take (signal_count bytes) (drop CONTENTS_BYTES bytes)
 
 abbrev pub record_bytes : List ℕ → List ℕ
 record_bytes bytes = drop (CONTENTS_BYTES + signal_count bytes) bytes
 
+-- the signals gs with the statements, if each record says one
 abbrev pub with_statements : List SignalKind → Result (List Statement) Refusal
     → Result (List SignalKind × List Statement) Refusal
 with_statements gs (Ok ss) = Ok (gs, ss)
 with_statements gs (Err e) = Err e
 
+-- the signals, if each of their bytes says a kind, with the statements of the table's bytes
 abbrev pub with_signals : List ℕ → Result (List SignalKind) Refusal
     → Result (List SignalKind × List Statement) Refusal
 with_signals bytes (Ok gs) =

@@ -7,6 +7,7 @@ use Rattle.routine.specs.declared.rows.Rows.{Rows}
 use Rattle.routine.specs.declared.drafts.Draft.{Draft}
 use Rattle.routine.specs.Kinds.{kinds}
 
+-- the signals and the kinds of the statements
 abbrev pub lent_signals : Rows → List SignalKind
 lent_signals r = r.signals.now
 

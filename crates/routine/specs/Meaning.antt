@@ -51,6 +51,7 @@ same Own Input = false
 same Own Output = false
 same Own Own = true
 
+-- the kind of signal s; a number that is none counts as an input
 abbrev pub signal_at : List SignalKind → ℕ → SignalKind
 signal_at gs s = slice_index_or gs s Input
 

@@ -13,6 +13,7 @@ use Rattle.routine.specs.declared.refusals.Refusal.TheVariants.{StillReady}
 use Rattle.routine.specs.declared.refusals.Refusal.TheVariants.{RecordForm, RecordHead, RecordMarks}
 use Rattle.routine.specs.declared.refusals.Refusal.TheVariants.{Memory}
 
+-- the number, as docs/REFUSALS.md lists it
 abbrev pub number_of : Refusal → Option ℕ
 number_of TableForm = Some 11
 number_of (SignalKind s) = Some 12
@@ -35,6 +36,7 @@ number_of (RecordHead o) = Some 62
 number_of (RecordMarks i) = Some 63
 number_of Memory = None
 
+-- the layer of the engine that refuses
 abbrev pub layer_of : Refusal → Option ℕ
 layer_of TableForm = Some 1
 layer_of (SignalKind s) = Some 1
@@ -57,7 +59,7 @@ layer_of (RecordHead o) = Some 4
 layer_of (RecordMarks i) = Some 4
 layer_of Memory = None
 
--- 0 where the refusal names no place
+-- the signal, the statement or the offset; 0 where the refusal names no place
 abbrev pub place_of : Refusal → ℕ
 place_of TableForm = 0
 place_of (SignalKind s) = s
@@ -80,7 +82,7 @@ place_of (RecordHead o) = o
 place_of (RecordMarks i) = i
 place_of Memory = 0
 
--- the line that tells of it
+-- a refusal in print, by its number and its place
 abbrev pub line : Option ℕ → ℕ → List ℕ
 line None p = codes "out of memory"
 line (Some n) p = codes "refused " ++ (decimal n ++ (codes " " ++ decimal p))

@@ -2,6 +2,7 @@
 use Rattle.std.specs.Prelude.{ℕ, zero, suc, ◌<◌, Bool, true, false, cond, Some, None}
 use Rattle.std.specs.Prelude.{IfNone, IfSome, Option}
 
+-- what was found below n, or n itself if b says so
 abbrev pub or_last : Option ℕ → Bool → ℕ → Option ℕ
 or_last None b n = cond b (Some n) None
 or_last (Some i) b n = Some i

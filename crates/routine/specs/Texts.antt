@@ -16,6 +16,7 @@ use Rattle.routine.specs.declared.refusals.Refusal.TheVariants.{RecordForm, Reco
 use Rattle.routine.specs.declared.refusals.Refusal.TheVariants.{Memory}
 use Rattle.routine.specs.Refusals.{place_of}
 
+-- the byte that ends a line
 abbrev pub line_end : List ℕ
 line_end = 10 ∷ []
 
@@ -55,7 +56,7 @@ subject_of (RecordHead o) = Some (codes "offset")
 subject_of (RecordMarks i) = Some (codes "statement")
 subject_of Memory = None
 
--- what is wrong there
+-- what is wrong there, in plain words
 abbrev pub wording_of : Refusal → List ℕ
 wording_of TableForm = codes "the contents or the length are not those of a table"
 wording_of (SignalKind s) = codes "its kind is above 2"
@@ -84,6 +85,7 @@ wording_of (RecordHead o) = codes "the head of the record has a wrong field ther
 wording_of (RecordMarks i) = codes "its mark is against the rules"
 wording_of Memory = codes "out of memory"
 
+-- the words, after the subject and the place if there are some
 abbrev pub about : Option (List ℕ) → ℕ → List ℕ → List ℕ
 about None p words = words
 about (Some subject) p words = subject ++ (codes " " ++ (decimal p ++ (codes ": " ++ words)))

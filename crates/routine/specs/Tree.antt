@@ -39,12 +39,13 @@ inside (leaf n k) i = false
 inside (one n k p) i = contains p i
 inside (two n k p q) i = contains p i || contains q i
 
--- how often i occurs
+-- how often i occurs in the tree
 abbrev pub occurs : Tree → ℕ → ℕ
 occurs (leaf n k) i = cond (i == n) 1 0
 occurs (one n k p) i = cond (i == n) 1 0 + occurs p i
 occurs (two n k p q) i = cond (i == n) 1 0 + (occurs p i + occurs q i)
 
+-- how many statements the tree has
 abbrev pub size : Tree → ℕ
 size (leaf n k) = 1
 size (one n k p) = 1 + size p
@@ -57,7 +58,7 @@ leaf_can_end stop = false
 leaf_can_end (emit s) = true
 leaf_can_end (wait s) = true
 
--- p: whether the part can
+-- p: whether the first can; below, q: whether the second can
 abbrev pub one_can_end : One → Bool → Bool
 one_can_end loop p = false
 one_can_end (kill s) p = p

@@ -12,6 +12,7 @@ use Rattle.routine.specs.Tree.{Tree, tree_at}
 use Rattle.routine.specs.Layout.{read_of}
 use Rattle.routine.specs.Meaning.{check_of}
 
+-- the signals, and the kinds of the statements
 abbrev pub table_signals : Table → List SignalKind
 table_signals t = vec_items t.signals
 
@@ -41,12 +42,13 @@ PartsRise n i (no_part k) = Unit {0}
 PartsRise n i (one_part k a) = (i < a) × (a < n)
 PartsRise n i (two_parts k a b) = (i < a) × (a < n) × (i < b) × (b < n)
 
--- a table that is read is checked next
+-- what is read, or the refusal of its check
 abbrev pub judged : List SignalKind × List Statement → Option Refusal
     → Result (List SignalKind × List Statement) Refusal
 judged p None = Ok p
 judged p (Some e) = Err e
 
+-- a table that is read is checked next
 abbrev pub then_checked : Result (List SignalKind × List Statement) Refusal
     → Result (List SignalKind × List Statement) Refusal
 then_checked (Ok p) = judged p (check_of p.0 (kinds p.1))
@@ -56,5 +58,6 @@ then_checked (Err e) = Err e
 abbrev pub load_of : List ℕ → Result (List SignalKind × List Statement) Refusal
 load_of bytes = then_checked (read_of bytes)
 
+-- what the table of a routine says
 abbrev pub routine_content : Routine → List SignalKind × List Statement
 routine_content r = content r.table

@@ -8,6 +8,7 @@ use crate::tables::Table;
 /// A counting routine: a table that passed every test.
 #[derive(Debug, Drop)]
 pub struct Routine {
+    /// The table. Its statements are idle, or have the marks that the last count gave them.
     pub table: Table,
     ghost passed: { passes table.signals.items (kinds table.statements.items) ≡ true },
 }
@@ -17,7 +18,7 @@ impl Routine {
     ghost use Rattle.routine.specs.View.{table_signals, table_kinds, count_of, tree_of};
 
     /// How many statements there are, 1 to `MOST_STATEMENTS`. Each is once in the routine's tree,
-    /// however much deeper one looks.
+    /// which is the same if one looks deeper than so many levels (`fuel`).
     pub fn count(&self) -> usize
         ensures value { result ≡ length (table_kinds self.now.table) }
         ensures rows { result ≡ count_of self.now.table }
@@ -29,7 +30,7 @@ impl Routine {
         self.table.count()
     }
 
-    /// How many signals are of this kind.
+    /// How many signals are of this kind, 0 to `MOST_SIGNALS`.
     pub fn signals(&self, kind: SignalKind) -> usize
         ensures { result ≡ count_by (λ g. same g kind) (table_signals self.now.table) }
     {

@@ -91,7 +91,7 @@ impl Rows<'_> {
         }
     }
 
-    // Is it one, with statement i inside?
+    // Is statement j a local statement of the signal, with statement i inside it?
     fn encloses(&self, j: usize, signal: u8, i: usize) -> bool
         ensures { result ≡ encloses (lent_kinds self.now) signal i j }
     {
@@ -113,7 +113,7 @@ impl Rows<'_> {
         (0..i).any(|j| self.declares(j, signal))
     }
 
-    // What is no signal counts as an input.
+    // The kind of the signal; a number that is none counts as an input.
     fn signal_or_input(&self, signal: u8) -> SignalKind
         ensures { result ≡ signal_at (lent_signals self.now) signal }
     {
@@ -121,6 +121,8 @@ impl Rows<'_> {
             .unwrap_or(SignalKind::Input)
     }
 
+    // Does statement i use a local signal outside its scope, or is it a local statement of a signal
+    // that a lower one has?
     fn unscoped(&self, i: usize) -> bool
         ensures { result ≡ unscoped (lent_signals self.now) (lent_kinds self.now) i
             (kind_at (lent_kinds self.now) i) }
@@ -136,6 +138,7 @@ impl Rows<'_> {
         }
     }
 
+    // Is statement i an emit of an input, or a local statement whose signal is not local?
     fn misuses(&self, i: usize) -> bool
         ensures { result ≡ misuses (lent_signals self.now) (kind_at (lent_kinds self.now) i) }
     {
@@ -146,6 +149,7 @@ impl Rows<'_> {
         }
     }
 
+    // Is statement i a loop whose first can end at once?
     fn endless(&self, i: usize) -> bool
         ensures { result ≡ endless (lent_kinds self.now) (kind_at (lent_kinds self.now) i) }
     {
@@ -155,7 +159,7 @@ impl Rows<'_> {
         }
     }
 
-    // Is it another statement than the first, and not named as a part exactly once?
+    // Is statement i another than 0, and not named as a part exactly once?
     fn is_misnamed(&self, i: usize) -> bool
         ensures { result ≡ is_misnamed (lent_kinds self.now) i }
     {

@@ -25,6 +25,7 @@ impl Draft {
     ghost use Rattle.routine.specs.View.{content};
     ghost use Rattle.routine.specs.Lent.{draft_content};
 
+    // The signals and the statements, lent.
     pub(crate) fn rows(&self) -> Rows<'_>
         ensures signals { result.signals.now ≡ self.now.signals.items }
         ensures statements { result.statements.now ≡ self.now.statements.items }

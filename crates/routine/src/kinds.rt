@@ -32,7 +32,7 @@ impl SignalKind {
 }
 
 /// What a statement is: `first` and `second` are the numbers of its parts, `signal` that of its
-/// signal.
+/// signal. docs/LANGUAGE.md says what each does.
 #[derive(Clone, Copy, Debug, Default, PartialEq, Eq)]
 pub enum Kind {
     #[default]
@@ -75,7 +75,7 @@ impl Kind {
     }
 }
 
-// A statement's name and its signal.
+/// A statement's name and its signal, as `emit 1`; its parts are left out.
 impl fmt::Display for Kind {
     ghost output = { λ k. Some (kind_text k) };
 
@@ -95,7 +95,7 @@ impl fmt::Display for Kind {
     }
 }
 
-/// How far a statement has come in a count.
+/// How far a statement has come in a count. docs/LANGUAGE.md says which marks a kind can have.
 #[derive(Clone, Copy, Debug, Default, PartialEq, Eq)]
 pub enum Mark {
     #[default]
@@ -108,7 +108,9 @@ pub enum Mark {
 /// A statement: what it is, and its mark, which is idle until a count begins it.
 #[derive(Clone, Copy, Debug, Default, PartialEq, Eq)]
 pub struct Statement {
+    /// What it is, with its signal and its parts.
     pub kind: Kind,
+    /// How far it has come.
     pub mark: Mark,
 }
 

@@ -34,7 +34,7 @@ impl Refusal {
         }
     }
 
-    /// What is wrong there, in plain words.
+    /// What is wrong there, in plain words, without the place.
     pub fn wording(&self) -> &'static str
         ensures { result.now ≡ wording_of self.now }
     {
@@ -75,6 +75,7 @@ impl Refusal {
 #[derive(Clone, Copy, Debug, PartialEq, Eq)]
 pub struct Reason(pub Refusal);
 
+/// As `statement 0: a loop whose first part can end at once`, or the words alone.
 impl fmt::Display for Reason {
     ghost output = { λ r. Some (reason_text r.0) };
 

@@ -121,6 +121,7 @@ impl Refusal {
     }
 }
 
+/// The number and the place, as `refused 24 0`, or `out of memory`.
 impl fmt::Display for Refusal {
     ghost output = { λ e. Some (refusal_line e) };
 

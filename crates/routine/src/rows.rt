@@ -20,6 +20,7 @@ impl Rows<'_> {
     ghost use Rattle.routine.specs.View.{PartsRise};
     ghost use Rattle.routine.specs.Lent.{lent_signals, lent_kinds, lent_count};
 
+    // How many statements there are.
     pub(crate) fn count(&self) -> usize
         ensures rows { result ≡ lent_count self.now }
         ensures listed { result ≡ length (lent_kinds self.now) }

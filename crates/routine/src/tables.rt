@@ -30,7 +30,9 @@ pub const MOST_TABLE_BYTES: usize = CONTENTS_BYTES
 /// statements by number.
 #[derive(Debug, Drop)]
 pub struct Table {
+    /// The kind of each signal, by its number.
     pub signals: Vec<SignalKind>,
+    /// Each statement, by its number.
     pub statements: Vec<Statement>,
     ghost few: { vec_len signals ≤ MOST_SIGNALS },
     ghost some: { 1 ≤ vec_len statements },
@@ -43,6 +45,7 @@ impl Table {
     ghost use Rattle.routine.specs.Tree.{node, tree_at};
     ghost use Rattle.routine.specs.View.{table_signals, table_kinds, count_of, PartsRise};
 
+    // The signals and the statements, lent.
     pub(crate) fn rows(&self) -> Rows<'_>
         ensures signals { result.signals.now ≡ table_signals self.now }
         ensures statements { result.statements.now ≡ vec_items self.now.statements }
@@ -53,6 +56,7 @@ impl Table {
         }
     }
 
+    // How many statements there are.
     pub(crate) fn count(&self) -> usize
         ensures rows { result ≡ count_of self.now }
         ensures listed { result ≡ length (table_kinds self.now) }

@@ -2,6 +2,7 @@ use routine::{Routine, load};
 use std::alloc::{AllocError, Global};
 use std::test::Fail;
 
+// What a table's byte says of a signal.
 pub(crate) const INPUT: u8 = 0;
 
 pub(crate) const OUTPUT: u8 = 1;

@@ -1,8 +1,8 @@
 #![tactic(auto)]
 
-// Examples of tables: those that are routines, and each refusal with the ways into it; of counts at
-// work, by react and call by call, on both boards, and which statements a react steps; and of
-// records, from board to board, and each refusal of one with the ways into it; and of relays.
+// Tests of compiled code, by examples. Tables: those that are routines, and each refusal with the
+// ways into it. Counts at work on both boards: by react, call by call, and which statements a react
+// steps. Records: from board to board, and each refusal with the ways into it. And relays.
 #[cfg(test)]
 mod building;
 #[cfg(test)]

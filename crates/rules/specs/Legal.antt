@@ -44,6 +44,7 @@ two_legal UnderWay parallel b c = b && c
 two_legal UnderWay (when s) b c = cond b (not c) c
 two_legal Done k b c = false
 
+-- the marks of statement i and of its parts go together
 abbrev pub row_legal : List Mark → ℕ → Shape → Bool
 row_legal ms i (no_part k) = leaf_legal (at ms i) k
 row_legal ms i (one_part k a) = one_legal (at ms i) k (is_live (at ms a))

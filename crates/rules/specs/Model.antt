@@ -24,13 +24,14 @@ Config = List Mark × Signals
 abbrev pub Ready : List Kind → Config → ℕ → Type 0
 Ready ks c i = ready (tree_at ks 0) c.0 c.1 i ≡ true
 
--- after its step
+-- after the step of statement i: the marks, then the signals
 abbrev pub stepped : List Kind → Config → ℕ → Config
 stepped ks c i = (fire (tree_at ks i) c.0, apply (effect_of (tree_at ks i)) c.1)
 
 abbrev pub lowest_ready : List Kind → Config → Option ℕ
 lowest_ready ks c = lowest (ready (tree_at ks 0) c.0 c.1) (length ks)
 
+-- after the step of that statement, if there is one
 abbrev pub turned : List Kind → Config → Option ℕ → Config
 turned ks c None = c
 turned ks c (Some i) = stepped ks c i
@@ -40,6 +41,7 @@ unfoldable pub settled : List Kind → ℕ → Config → Config
 settled ks zero c = c
 settled ks (suc most) c = settled ks most (turned ks c (lowest_ready ks c))
 
+-- that statement, and then what follows on it; nothing where there is none
 abbrev pub first_then : Option ℕ → (ℕ → List ℕ) → List ℕ
 first_then None go = []
 first_then (Some i) go = i ∷ go i
@@ -108,6 +110,7 @@ instant gs ks ms input =
 abbrev pub first_marks : List Kind → List Mark
 first_marks ks = begun (tree_at ks 0) (replicate (length ks) Idle)
 
+-- one instant for each word, from the marks ms on
 abbrev pub instants_from : List SignalKind → List Kind → List Mark → List ℕ → List Outcome
 instants_from gs ks ms [] = []
 instants_from gs ks ms (input ∷ later) =

@@ -13,13 +13,14 @@ use Rattle.rules.specs.Legal.{Legal}
 use Rattle.rules.specs.Model.{Config, Ready, stepped, lowest_ready, settled, path, enough}
 use Rattle.rules.specs.Model.{first_marks, closed, instant}
 
--- the signals and statements of a routine: what reading and checking leave
+-- the signals gs and the statements ks are those of a routine: what reading and checking leave
 pub record Checked (gs : List SignalKind) (ks : List Kind) : Type 0 where
   pub formed : Formed (length gs) ks
   pub some : 0 < length ks
   pub passed : passes gs ks ≡ true
 
--- (what follows is said of every routine)
+-- each theorem is of the signals gs and the statements ks; a function of src/theorems.rt says it of
+-- every routine
 module _ (gs : List SignalKind) (ks : List Kind) where
   -- inside a statement that is over nothing is ready, and ready statements do not lie inside one
   -- another

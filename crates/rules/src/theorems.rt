@@ -29,8 +29,8 @@ pub fn order_never_shows(routine: &Routine)
         (table_kinds routine.now.table) }
 {}
 
-/// The most steps that an instant can have: 4 for each statement. The model is quiet after them,
-/// and the steps that it counts are the sum of how often it stepped each statement.
+/// No instant has more steps than this: 4 for each statement. After so many nothing is ready in the
+/// model, and the steps that it counts are the sum of how often it stepped each statement.
 pub fn most_steps(routine: &Routine) -> usize
     ensures value { result ≡ 4 * length (table_kinds routine.now.table) }
     ensures sums { StepsAddUp (table_signals routine.now.table) (table_kinds routine.now.table) }

@@ -15,11 +15,11 @@ use Rattle.count.specs.Calls.{new_state, begin_refusal, react_closing, react_sta
 use Rattle.input.specs.Input.{table_part, rest_part}
 use Rattle.run.specs.InputWords.{words_of}
 
--- a closed instant: its number, the output word, the status, the steps
+-- a closed instant, as a line
 abbrev pub closing_line : Closing → List ℕ
 closing_line c = closing_text c ++ line_end
 
--- a refusal
+-- a refusal, as a line
 abbrev pub refused_line : Refusal → List ℕ
 refused_line e = refusal_line e ++ line_end
 

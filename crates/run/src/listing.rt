@@ -35,7 +35,7 @@ fn write_lines<B: Board>(
 
 /// What there is to print of the input's bytes: the refusal of the table, or a line for each input
 /// word that a new count of its routine reacts to, on a bit board; a refused word is the last. A
-/// table that is no routine is refused whatever memory there is.
+/// table that is no routine is refused whatever memory there is; `Err` is want of memory.
 pub fn listing(heap: Global, bytes: &[u8]) -> Result<Printed, AllocError>
     ensures { SaysOrMemory (listing_of bytes.now) said result }
 {

@@ -22,6 +22,6 @@ stamp_set stamps current =
 abbrev pub next_stamp : ℕ → ℕ
 next_stamp current = cond (nat_lt current LAST_STAMP) (current + 1) 1
 
--- the stamps that it leaves: after the last stamp all are 0
+-- the stamps that a wipe leaves: after the last stamp all are 0
 abbrev pub wiped_stamps : List ℕ → ℕ → List ℕ
 wiped_stamps stamps current = cond (nat_lt current LAST_STAMP) stamps (replicate SIGNALS 0)

@@ -21,6 +21,7 @@ indent d = repeat (2 * d) (codes " ")
 abbrev pub statement_text : ℕ → ℕ → Kind → List ℕ
 statement_text d i k = indent d ++ (decimal i ++ (codes " " ++ kind_text k))
 
+-- the line of statement i
 abbrev pub outline_line : List Kind → ℕ → ℕ → List ℕ
 outline_line ks d i = statement_text d i (kind_at ks i) ++ line_end
 
@@ -30,7 +31,7 @@ outline ks d (leaf n k) = outline_line ks d n
 outline ks d (one n k p) = outline_line ks d n ++ outline ks (d + 1) p
 outline ks d (two n k p q) = outline_line ks d n ++ (outline ks (d + 1) p ++ outline ks (d + 1) q)
 
--- how many there are of each
+-- how many there are of each, in print
 abbrev pub census_text : Census → List ℕ
 census_text c =
     codes "inputs " ++ (decimal c.inputs
@@ -38,6 +39,7 @@ census_text c =
     ++ (codes ", locals " ++ (decimal c.locals
     ++ (codes ", statements " ++ decimal c.statements))))))
 
+-- how many signals of each kind and how many statements there are
 abbrev pub census : List SignalKind → List Kind → Census
 census gs ks = record {
   inputs = count_by (λ g. same g Input) gs;
@@ -46,6 +48,7 @@ census gs ks = record {
   statements = length ks;
 }
 
+-- the line of the numbers, and the outline of statement 0
 abbrev pub routine_report : List SignalKind → List Kind → List ℕ
 routine_report gs ks = (census_text (census gs ks) ++ line_end) ++ outline ks 0 (tree_at ks 0)
 
@@ -54,5 +57,6 @@ abbrev pub verdict : Result (List SignalKind × List Statement) Refusal → Resu
 verdict (Ok p) = Ok (routine_report p.0 (kinds p.1))
 verdict (Err e) = Err e
 
+-- the report of the bytes
 abbrev pub report_of : List ℕ → Result (List ℕ) Refusal
 report_of bytes = verdict (load_of bytes)

@@ -9,6 +9,7 @@ use std::fmt;
 #[derive(Debug, Drop)]
 pub struct Explained(pub Printed);
 
+/// The text, or two lines for the refusal: by its number, and in plain words.
 impl fmt::Display for Explained {
     ghost output = { λ e. Some (explained_text e) };
 

@@ -20,6 +20,7 @@ struct Census {
 }
 
 impl Census {
+    // The numbers of a routine.
     fn of(routine: &Routine) -> Self
         ensures { result ≡ census (table_signals routine.now.table)
             (table_kinds routine.now.table) }
@@ -46,7 +47,7 @@ impl fmt::Display for Census {
 }
 
 /// What there is to say of a table's bytes: the routine that they are, or why they are none,
-/// whatever memory there is.
+/// whatever memory there is; `Err` is want of memory.
 pub fn report(heap: Global, bytes: &[u8]) -> Result<Printed, AllocError>
     ensures { SaysOrMemory (report_of bytes.now) said result }
 {

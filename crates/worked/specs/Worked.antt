@@ -145,7 +145,7 @@ endless =
       calls = [];
     }
 
--- and loop(when A(stop, nothing)), input A = 0
+-- 9 too: loop(when A(stop, nothing)), input A = 0
 abbrev pub takes_time : Example
 takes_time =
     record {
@@ -157,6 +157,7 @@ takes_time =
       calls = [];
     }
 
+-- the worked routines, in the order of docs/LANGUAGE.md
 abbrev pub examples : List Example
 examples =
     nothing_at_all ∷ just_stop ∷ relayed ∷ too_late ∷ killed ∷ over_already ∷ new_life

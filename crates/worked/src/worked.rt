@@ -15,6 +15,7 @@ pub struct Summary {
     pub instant: u8,
     /// Bit s of the word: output s is present.
     pub outputs: u64,
+    /// Whether the routine goes on or is over.
     pub status: Status,
     /// How many steps the instant had.
     pub steps: u16,
