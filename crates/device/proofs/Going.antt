@@ -27,6 +27,7 @@ use Rattle.count.specs.declared.counts.Count.{Count}
 use Rattle.count.specs.Calls.{after, new_state}
 use Rattle.count.specs.CountView.{kinds_of, signals_of, state_of, SameRoutine, Reacts, TakesOver}
 use Rattle.device.specs.Closings.{Reply, onto, answered, closings, of_new, by_one, told, GoesOn}
+use Rattle.device.specs.Closings.{resumed, by_record}
 
 onto_twice : (cs ds : List Closing) (r : Reply) → onto cs (onto ds r) ≡ onto (cs ++ ds) r
 onto_twice cs ds (Ok es) = ap Ok (sym (append_assoc cs ds es))
@@ -46,6 +47,16 @@ refused : (why : Option Refusal) (e : Refusal) (y : Closing) (r : Reply)
     → Err e ≡ answer why y → answered why y r ≡ Err e
 refused None e y r p = cc
 refused (Some x) e y r p = cc
+
+stopped : (why : Option Refusal) (e : Refusal) (r : Reply)
+    → Err e ≡ answer {X = Unit {0}} why tt → resumed why r ≡ Err e
+stopped None e r p = cc
+stopped (Some x) e r p = cc
+
+resumes : (why : Option Refusal) (s t u : State) (f : State → Reply)
+    → Ok tt ≡ answer {X = Unit {0}} why tt → t ≡ after why s u → resumed why (f u) ≡ f t
+resumes None s t u f p q = cc
+resumes (Some e) s t u f p q = cc
 
 module _ {B : Type 0} {G : Ghosts B} (present : B → List Bool) where
   -- c reacted to words of ws, of which vs are left, and is d
@@ -155,26 +166,33 @@ pub says_it : (gs : List SignalKind) (ks : List Kind) (s : State) (bytes : List 
 says_it gs ks s bytes n g sound written =
     ap (state_in (length ks)) written ∙ (restored gs ks s n g sound).1
 
--- a count of the same routine takes over a record that is accepted and says where the first stands
-module _ {A B : Type 0} {F : Ghosts A} {G : Ghosts B} (p : A → List Bool) (q : B → List Bool)
-    (here : Count A F) (start there : Count B G) (bytes : List ℕ) (r : Result (Unit {0}) Refusal)
-    (accepted : taking_refusal (signals_of here) (kinds_of here) bytes ≡ None)
-    (says : state_in (length (kinds_of here)) bytes ≡ state_of p here)
-    (k : kinds_of start ≡ kinds_of here) (g : signals_of start ≡ signals_of here)
-    (t : TakesOver q start there bytes r) where
-  none : taking_refusal (signals_of start) (kinds_of start) bytes ≡ None
-  none = rw (k, g) accepted
+-- a count takes a record over
+module _ {B : Type 0} {G : Ghosts B} (present : B → List Bool) (start there : Count B G)
+    (bytes : List ℕ) (cs : List Closing) where
+  -- and is refused
+  pub record_refused : (e : Refusal) → TakesOver present start there bytes (Err e)
+      → (ws : List ℕ) → by_record (signals_of start) (kinds_of start) bytes cs ws ≡ Err e
+  record_refused e t ws =
+      stopped (taking_refusal (signals_of start) (kinds_of start) bytes) e _ t.says
 
-  pub never_refused : r ≡ Ok tt
-  never_refused = t.says ∙ ap (λ o. answer {X = Unit {0}} o tt) none
+  -- and goes on where the record says
+  pub record_taken : TakesOver present start there bytes (Ok tt)
+      → (ws : List ℕ)
+      → by_record (signals_of start) (kinds_of start) bytes cs ws
+      ≡ told present cs there (ws ++ [])
+  record_taken t ws =
+      rw (append-nil ws, t.signals, t.kinds)
+      (resumes (taking_refusal (signals_of start) (kinds_of start) bytes) _ _ _
+      (λ s. onto cs (closings (signals_of start) (kinds_of start) s ws)) t.says t.leaves)
 
-  stands : state_of q there ≡ state_of p here
-  stands =
-      t.leaves
-      ∙ ap (λ o. after o (state_of q start) (state_in (length (kinds_of start)) bytes)) none
-      ∙ rw k says
-
-  -- so what the first is to answer is what the second answers
-  pub told_there : (d : Reply) (cs : List Closing) (ws : List ℕ)
-      → d ≡ told p cs here ws → d ≡ told q cs there (ws ++ [])
-  told_there d cs ws e = e ∙ rw (t.kinds ∙ k, t.signals ∙ g, stands, append-nil ws) refl
+-- the record of the first device is accepted on the second, and says where the first stands: so
+-- what the first is to answer is what the second answers
+pub told_there : {A B : Type 0} {F : Ghosts A} {G : Ghosts B} (p : A → List Bool)
+    (here : Count A F) (start : Count B G) (bytes : List ℕ)
+    → taking_refusal (signals_of here) (kinds_of here) bytes ≡ None
+    → state_in (length (kinds_of here)) bytes ≡ state_of p here
+    → (kinds_of start ≡ kinds_of here) × (signals_of start ≡ signals_of here)
+    → (cs : List Closing) (ws : List ℕ)
+    → told p cs here ws ≡ by_record (signals_of start) (kinds_of start) bytes cs ws
+told_there p here start bytes accepted says same cs ws =
+    rw (same.0, same.1, accepted, says) refl

@@ -1,5 +1,5 @@
 -- what devices answer to words, one after another
-use Rattle.std.specs.Prelude.{◌≡◌, ℕ, Bool, ◌⊎◌, List, [], ◌∷◌, ◌++◌}
+use Rattle.std.specs.Prelude.{◌≡◌, ℕ, Bool, ◌⊎◌, List, [], ◌∷◌, ◌++◌, length}
 use Rattle.std.specs.Prelude.{Some, None, Ok, Err, Option, Result, MatchResult}
 use Rattle.routine.specs.declared.kinds.SignalKind.{SignalKind}
 use Rattle.routine.specs.declared.kinds.Kind.{Kind}
@@ -10,6 +10,7 @@ use Rattle.routine.specs.Kinds.{kinds}
 use Rattle.routine.specs.View.{load_of}
 use Rattle.signals.specs.declared.board.Board.{Ghosts}
 use Rattle.record.specs.State.{State}
+use Rattle.record.specs.Taking.{taking_refusal, state_in}
 use Rattle.count.specs.declared.answers.Closing.{Closing}
 use Rattle.count.specs.declared.counts.Count.{Count}
 use Rattle.count.specs.Calls.{new_state, begin_refusal, react_closing, react_state}
@@ -44,6 +45,17 @@ of_new (Err e) ws = Err e
 -- what one device answers: a new count of the table's routine reacts to all words
 abbrev pub by_one : List ℕ → List ℕ → Reply
 by_one table ws = of_new (load_of table) ws
+
+abbrev pub resumed : Option Refusal → Reply → Reply
+resumed None r = r
+resumed (Some e) r = Err e
+
+-- the closings cs, and then what a count of a routine answers to the words after it took the record
+-- over; or the refusal of the record
+abbrev pub by_record : List SignalKind → List Kind → List ℕ → List Closing → List ℕ → Reply
+by_record gs ks bytes cs ws =
+    resumed (taking_refusal gs ks bytes)
+    (onto cs (closings gs ks (state_in (length ks) bytes) ws))
 
 -- the answer r is d, seen by `view`, or want of memory
 abbrev pub IsOrMemory : {A B : Type 0} → Result A Refusal → (B → A) → Result B Refusal → Type 0

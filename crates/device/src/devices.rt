@@ -2,7 +2,7 @@ ghost use Rattle.std.specs.Prelude.{◌≡◌, ◌++◌, length, None, Err, IfEr
 ghost use Rattle.routine.specs.View.{load_of};
 ghost use Rattle.record.specs.Taking.{taking_refusal, state_in};
 ghost use Rattle.count.specs.CountView.{kinds_of, signals_of, state_of};
-ghost use Rattle.device.specs.Closings.{ReactsAll, by_one, IsOrMemory};
+ghost use Rattle.device.specs.Closings.{ReactsAll, by_one, by_record, IsOrMemory};
 
 use count::{Closing, Count};
 use record::RECORD_BYTES;
@@ -36,6 +36,23 @@ fn into_record<B: Board + Drop>(count: Count<B>) -> [u8; RECORD_BYTES]
     record
 }
 
+/// The count takes the record over and reacts to each of the words; its closings come after those
+/// that are there.
+fn go_on<B: Board + Drop>(
+    mut there: Count<B>,
+    record: &[u8],
+    words: &[u64],
+    mut closings: Vec<Closing>,
+) -> Result<Vec<Closing>, Refusal>
+    ensures { IsOrMemory
+        (by_record (signals_of there) (kinds_of there) «record».now (vec_items closings) words.now)
+        vec_items result }
+{
+    there.take_over(record)?;
+    react_all(&mut there, words, &mut closings)?;
+    Ok(closings)
+}
+
 /// The closings of two devices that have the same table: the first reacts to the words before and
 /// hands its count over by the record, the second takes it over and reacts to the later words.
 ///
@@ -56,9 +73,6 @@ pub fn react_on_two<A: Board + Drop, B: Board + Drop>(
     let mut here = Count::new(load(heap, table)?, first);
     react_all(&mut here, before, &mut closings)?;
     let record = into_record(here);
-
-    let mut there = Count::new(load(heap, table)?, second);
-    there.take_over(&record)?;
-    react_all(&mut there, later, &mut closings)?;
-    Ok(closings)
+    let there = Count::new(load(heap, table)?, second);
+    go_on(there, &record, later, closings)
 }

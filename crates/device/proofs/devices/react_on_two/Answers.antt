@@ -1,8 +1,9 @@
-use Rattle.std.proofs.Common.{inl, inr, ap, ◌++◌, [], Err, ◌∙◌}
+use Rattle.std.proofs.Common.{inl, inr, ap, ◌++◌, Err, ◌∙◌, sym, subst, vec_items}
 use Rattle.std.proofs.lemmas.Result.{err_from_is_err_and}
 use Rattle.routine.specs.View.{load_of, routine_content}
-use Rattle.device.proofs.Going.{told_new, told_next, told_all, told_there}
-use Rattle.device.proofs.Going.{never_refused, not_loaded, as_refused, not_refused, same_routine}
+use Rattle.device.specs.Closings.{Reply, IsOrMemory}
+use Rattle.device.proofs.Going.{told_new, told_next, told_there, same_routine}
+use Rattle.device.proofs.Going.{not_loaded, as_refused, not_refused}
 use Rattle.device.proofs.devices.react_on_two.Goals as goal
 
 pub returns-in_err-load-clause-answers : goal.returns-in_err-load-clause-answers
@@ -33,61 +34,24 @@ returns-in_err-load-2-clause-answers g c =
     (not_loaded (load_of c.args.table.now) routine_content _
     (c.args.before.now ++ c.args.later.now) c.in_err-load-2.ensures)
 
-pub returns-in_err-take_over : goal.returns-in_err-take_over
-returns-in_err-take_over g c =
-    let here = c.react_all.new.count in
-    let start = c.new-there.result in
-    let h = c.new-here.ensures in
-    let t = c.new-there.ensures in
-    let gone = c.in_ok-react_all.ensures in
-    let handed = c.into_record-record in
-    let same = same_routine c.args.table.now _ _ c.new-here.result here start
-    c.in_ok-load.ensures c.in_ok-load-2.ensures gone.routine h.kinds h.signals t.kinds t.signals in
-    let accepted = never_refused g.A.Board.present g.B.Board.present here start
-    c.take_over.new.self handed.result c.take_over.result handed.ensures.accepted
-    handed.ensures.says same.0 same.1 c.take_over.ensures.exact in
-    let refused = c.in_err-take_over.was in
-    absurd (cc)
-
-pub returns-in_err-react_all-2-clause-answers : goal.returns-in_err-react_all-2-clause-answers
-returns-in_err-react_all-2-clause-answers g c =
-    let here = c.react_all.new.count in
-    let start = c.new-there.result in
-    let h = c.new-here.ensures in
-    let t = c.new-there.ensures in
-    let gone = c.in_ok-react_all.ensures in
-    let handed = c.into_record-record in
-    let same = same_routine c.args.table.now _ _ c.new-here.result here start
-    c.in_ok-load.ensures c.in_ok-load-2.ensures gone.routine h.kinds h.signals t.kinds t.signals in
-    let first = told_next g.A.Board.present c.args.table.now _ c.new-here.result _
-    c.new-closings.ensures.items c.in_ok-load.ensures h.kinds h.signals h.state
-    c.args.before.now c.args.later.now here _ gone in
-    let told = told_there g.A.Board.present g.B.Board.present here start c.take_over.new.self
-    handed.result c.take_over.result handed.ensures.accepted handed.ensures.says same.0 same.1
-    c.take_over.ensures.exact _ _ c.args.later.now first in
-    let f = c.from_residual-in_err-react_all-2 in
-    let r = err_from_is_err_and f.result f.ensures.1 in
-    rw (r.1, r.2)
-    (elim c.in_err-react_all-2.ensures [ inl m ↦ inl m | inr why ↦ inr (told ∙ why []) ])
-
+-- what the first device is to answer to the later words the second answers
 pub returns-clause-answers : goal.returns-clause-answers
 returns-clause-answers g c =
     let here = c.react_all.new.count in
-    let start = c.new-there.result in
+    let there = c.new-there.result in
     let h = c.new-here.ensures in
     let t = c.new-there.ensures in
     let gone = c.in_ok-react_all.ensures in
-    let handed = c.into_record-record in
-    let same = same_routine c.args.table.now _ _ c.new-here.result here start
+    let handed = c.into_record-record.ensures in
+    let same = same_routine c.args.table.now _ _ c.new-here.result here there
     c.in_ok-load.ensures c.in_ok-load-2.ensures gone.routine h.kinds h.signals t.kinds t.signals in
     let first = told_next g.A.Board.present c.args.table.now _ c.new-here.result _
     c.new-closings.ensures.items c.in_ok-load.ensures h.kinds h.signals h.state
     c.args.before.now c.args.later.now here _ gone in
-    let told = told_there g.A.Board.present g.B.Board.present here start c.take_over.new.self
-    handed.result c.take_over.result handed.ensures.accepted handed.ensures.says same.0 same.1
-    c.take_over.ensures.exact _ _ c.args.later.now first in
-    told_all g.B.Board.present _ c.take_over.new.self c.react_all-2.new.count c.args.later.now _ _
-    c.in_ok-react_all-2.ensures told
+    let then = told_there g.A.Board.present here there _ handed.accepted handed.says same _
+    c.args.later.now in
+    subst (λ (d : Reply). IsOrMemory d vec_items c.go_on.result) (sym (first ∙ then))
+    c.go_on.ensures
 
 pub returns-in_err-load-clause-refused : goal.returns-in_err-load-clause-refused
 returns-in_err-load-clause-refused g c =
@@ -102,10 +66,6 @@ returns-in_err-react_all-clause-refused g c =
 
 pub returns-in_err-load-2-clause-refused : goal.returns-in_err-load-2-clause-refused
 returns-in_err-load-2-clause-refused g c =
-    not_refused (load_of c.args.table.now) routine_content _ _ c.in_ok-load.ensures
-
-pub returns-in_err-react_all-2-clause-refused : goal.returns-in_err-react_all-2-clause-refused
-returns-in_err-react_all-2-clause-refused g c =
     not_refused (load_of c.args.table.now) routine_content _ _ c.in_ok-load.ensures
 
 pub returns-clause-refused : goal.returns-clause-refused
