@@ -1,12 +1,12 @@
 -- Sets of signals, and those that a function of the signal's number makes.
-use Rattle.std.specs.Prelude.{◌≡◌, ℕ, ◌<◌, ◌≤◌, Bool, false, ◌≢◌, List, map, length, get_or}
-use Rattle.std.specs.Prelude.{replicate, slice_index_or, slice_set}
+use Rattle.std.specs.Prelude.{◌≡◌, ℕ, ◌<◌, ◌≤◌, Bool, true, false, ◌≢◌, List, map, length, get_or}
+use Rattle.std.specs.Prelude.{replicate, nat_lt, slice_index_or, slice_set}
 use Rattle.std.proofs.Common.{sym, ◌∙◌, ap, ⊎_elim, arith}
 use Rattle.std.specs.List.{range_with_len}
 use Rattle.std.proofs.lemmas.List.FromFn.{length-map-range_with_len, get_or-map-range_with_len}
 use Rattle.std.proofs.lemmas.List.{ext_get_or, length-set, length-replicate, get_or-replicate}
 use Rattle.std.proofs.lemmas.List.{get_or-set_same, get_or-set_other, get_or_past, set_past}
-use Rattle.std.proofs.lemmas.Bool.{cases_eq, cases_lt}
+use Rattle.std.proofs.lemmas.Bool.{cases_eq, cases_lt, lt-ltb, le-ltb}
 use Rattle.signals.specs.Sets.{empty}
 
 -- the empty set has a place for each signal
@@ -32,6 +32,25 @@ get_or-above p s e h = get_or_past p s false (omega arith)
 -- and to raise or lower it changes nothing
 pub set-above : (p : List Bool) (s : ℕ) (v : Bool) → length p ≡ 64 → 64 ≤ s → slice_set p s v ≡ p
 set-above p s v e h = set_past p s v (omega arith)
+
+-- a signal that was raised is there, if its number is below 64
+pub get_or-raised : (p : List Bool) (s : ℕ) → length p ≡ 64
+    → slice_index_or (slice_set p s true) s false ≡ nat_lt s 64
+get_or-raised p s e =
+    ⊎_elim
+    (λ (l : s < 64). get_or-set_same p s true false (omega arith) ∙ sym (lt-ltb s 64 l))
+    (λ (l : 64 ≤ s). get_or-above (slice_set p s true) s (length-set p s true ∙ e) l
+    ∙ sym (le-ltb s 64 l))
+    (cases_lt s 64)
+
+-- a signal that was lowered is not there
+pub get_or-lowered : (p : List Bool) (s : ℕ) → length p ≡ 64
+    → slice_index_or (slice_set p s false) s false ≡ false
+get_or-lowered p s e =
+    ⊎_elim
+    (λ (l : s < 64). get_or-set_same p s false false (omega arith))
+    (λ (l : 64 ≤ s). get_or-above (slice_set p s false) s (length-set p s false ∙ e) l)
+    (cases_lt s 64)
 
 -- the set that f makes is p, if they agree on each signal
 pub map_is : (f : ℕ → Bool) (p : List Bool) → length p ≡ 64

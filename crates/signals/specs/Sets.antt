@@ -3,7 +3,6 @@ use Rattle.std.specs.Prelude.{ℕ, ◌+◌, ◌/◌, ◌%◌, ◌^◌, Bool, fal
 use Rattle.std.specs.Prelude.{nat_eq, nat_lt, slice_index}
 use Rattle.std.specs.List.{range_with_len}
 use Rattle.signals.specs.declared.board.TheConstants.{SIGNALS}
-use Rattle.signals.specs.declared.stamps.TheConstants.{LAST_STAMP}
 
 -- the set of no signal
 unfoldable pub empty : List Bool
@@ -18,10 +17,10 @@ unfoldable pub stamp_set : List ℕ → ℕ → List Bool
 stamp_set stamps current =
     map (λ k. nat_eq (slice_index stamps k) current) (range_with_len 0 SIGNALS)
 
--- the stamp that a wipe takes: after the last comes 1
+-- the stamp that a wipe takes: after 4294967295, the last that 32 bits hold, comes 1
 abbrev pub next_stamp : ℕ → ℕ
-next_stamp current = cond (nat_lt current LAST_STAMP) (current + 1) 1
+next_stamp current = cond (nat_lt current 4294967295) (current + 1) 1
 
 -- the stamps that a wipe leaves: after the last stamp all are 0
 abbrev pub wiped_stamps : List ℕ → ℕ → List ℕ
-wiped_stamps stamps current = cond (nat_lt current LAST_STAMP) stamps (replicate SIGNALS 0)
+wiped_stamps stamps current = cond (nat_lt current 4294967295) stamps (replicate SIGNALS 0)
