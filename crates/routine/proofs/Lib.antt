@@ -2,6 +2,7 @@ pub mod Entries
 pub mod Reading
 pub mod Trees
 pub mod Once
+pub mod Naming
 pub mod Lists
 pub mod Levels
 pub mod Searches

@@ -18,7 +18,7 @@ module _ (ss : List Statement) (a : ℕ) where
   abbrev by_row : Statement → ℕ
   by_row x = names (shape x.kind) a
 
-  summed : (n : ℕ) → n ≤ length ss → sum_by by_row (take n ss) ≡ named (kinds ss) n a
+  pub summed : (n : ℕ) → n ≤ length ss → sum_by by_row (take n ss) ≡ named (kinds ss) n a
   summed zero l = refl
   summed (suc n) l =
       let e : suc n ≡ n + 1 = omega arith in

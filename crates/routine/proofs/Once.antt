@@ -23,7 +23,7 @@ Distinct (two n k p q) =
 names_some : (r : Shape) (a : ℕ) → Part r a → 1 ≤ names r a
 names_some r a h = grind arith
 
-some_names : (r : Shape) (a : ℕ) → 1 ≤ names r a → Part r a
+pub some_names : (r : Shape) (a : ℕ) → 1 ≤ names r a → Part r a
 some_names r a h = grind arith
 
 module _ (ks : List Kind) where

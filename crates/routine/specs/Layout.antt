@@ -9,7 +9,6 @@ use Rattle.routine.specs.declared.kinds.Kind.TheVariants.{Nothing, Stop, Emit, W
 use Rattle.routine.specs.declared.kinds.Kind.TheVariants.{Parallel, Loop, When, Kill, Local}
 use Rattle.routine.specs.declared.kinds.Statement.{Statement}
 use Rattle.routine.specs.declared.tables.TheConstants.{CONTENTS_BYTES, STATEMENT_BYTES}
-use Rattle.routine.specs.declared.tables.TheConstants.{MOST_SIGNALS, MOST_STATEMENTS}
 use Rattle.routine.specs.declared.refusals.Refusal.{Refusal}
 use Rattle.routine.specs.declared.refusals.Refusal.TheVariants.{TableForm}
 use Rattle.routine.specs.declared.refusals.Refusal.TheVariants.{SignalKind as BadSignalKind}
@@ -27,15 +26,15 @@ signal_count bytes = word bytes 2
 abbrev pub statement_count : List ℕ → ℕ
 statement_count bytes = word bytes 6
 
--- the contents and the length are those of a table
+-- the contents and the length are those of a table, with at most 64 signals and 256 statements
 abbrev pub headed : List ℕ → Bool
 headed bytes =
     nat_le CONTENTS_BYTES (length bytes)
     && (word bytes 0 == CONTENTS_BYTES
-    && (nat_le (signal_count bytes) MOST_SIGNALS
+    && (nat_le (signal_count bytes) 64
     && (word bytes 4 == CONTENTS_BYTES + signal_count bytes
     && (nat_le 1 (statement_count bytes)
-    && (nat_le (statement_count bytes) MOST_STATEMENTS
+    && (nat_le (statement_count bytes) 256
     && length bytes
     == CONTENTS_BYTES + signal_count bytes + STATEMENT_BYTES * statement_count bytes)))))
 

@@ -33,11 +33,12 @@ fn names(kind: Kind, part: usize) -> usize
 }
 
 impl Rows<'_> {
-    // How often statement a is named as a part.
+    // How often statement a is named as a part. Only a statement below it can name it.
     fn named(&self, a: usize) -> usize
         ensures { result ≡ named (lent_kinds self.now) (length (lent_kinds self.now)) a }
     {
-        self.statements.iter().map(|row| names(row.kind, a)).sum()
+        let (below, _) = self.statements.split_at(a.min(self.count()));
+        below.iter().map(|row| names(row.kind, a)).sum()
     }
 
     // Is k statement i, or does it lie inside it?
