@@ -1,9 +1,11 @@
-ghost use Rattle.std.specs.Prelude.{◌≡◌, Some};
+ghost use Rattle.std.specs.Prelude.{◌≡◌, Some, IfOk};
 ghost use Rattle.routine.specs.Refusals.{SaysOrMemory};
 ghost use Rattle.routine.specs.View.{table_signals, table_kinds};
 ghost use Rattle.input.specs.Printed.{said};
 ghost use Rattle.tablecheck.specs.Report.{census_text, census, report_of};
+ghost use Rattle.tablecheck.specs.Explained.{in_print, explained_text};
 
+use crate::explained::Explained;
 use crate::outline::write_outline;
 use input::Printed;
 use routine::{Refusal, Routine, SignalKind, load};
@@ -46,9 +48,9 @@ impl fmt::Display for Census {
     }
 }
 
-/// What there is to say of a table's bytes: the routine that they are, or why they are none,
-/// whatever memory there is; `Err` is want of memory.
-pub fn report(heap: Global, bytes: &[u8]) -> Result<Printed, AllocError>
+// What there is to say of a table's bytes: the routine that they are, or why they are none,
+// whatever memory there is; `Err` is want of memory.
+fn verdict(heap: Global, bytes: &[u8]) -> Result<Printed, AllocError>
     ensures { SaysOrMemory (report_of bytes.now) said result }
 {
     let routine = match load(heap, bytes) {
@@ -61,4 +63,13 @@ pub fn report(heap: Global, bytes: &[u8]) -> Result<Printed, AllocError>
     writeln!(text, "{}", Census::of(&routine))?;
     write_outline(&mut text, &routine, 0, 0)?;
     Ok(Printed::Lines { text })
+}
+
+/// What there is to print of a table's bytes: the routine that they are, or why they are none, by
+/// its number and in plain words, whatever memory there is; `Err` is want of memory.
+pub fn report(heap: Global, bytes: &[u8]) -> Result<Explained, AllocError>
+    ensures says { SaysOrMemory (report_of bytes.now) (λ e. said e.0) result }
+    ensures prints { IfOk result (λ e. explained_text e ≡ in_print (report_of bytes.now)) }
+{
+    Ok(Explained::new(verdict(heap, bytes)?))
 }

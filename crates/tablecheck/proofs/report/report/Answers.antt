@@ -1,28 +1,18 @@
-use Rattle.std.proofs.Common.{refl, rules}
-use Rattle.routine.specs.View.{load_of, routine_content}
-use Rattle.routine.proofs.Answered.{load_numbered, value_said, refusal_said, something_said}
+use Rattle.tablecheck.specs.Report.{report_of}
+use Rattle.tablecheck.proofs.Explaining.{kept_said, kept_error, kept_text}
 use Rattle.tablecheck.proofs.report.report.Goals as goal
 
-pub returns-in-Err-Memory : goal.returns-in-Err-Memory
-returns-in-Err-Memory c =
-    let bytes = c.args.bytes.now in
-    let p = something_said (load_of bytes) routine_content _ c.in-Err-Memory.field-0-is
-    (load_numbered bytes) c.in-Err-Memory.ensures in
-    rw p.1 tt
+pub returns-in_err-verdict-clause-says : goal.returns-in_err-verdict-clause-says
+returns-in_err-verdict-clause-says c =
+    kept_error (report_of c.args.bytes.now) c.in_err-verdict.field-0.0 c.from_residual.result
+    c.in_err-verdict.ensures c.from_residual.ensures.0
 
-pub returns-in-Err : goal.returns-in-Err
-returns-in-Err c =
-    let e = refusal_said (load_of c.args.bytes.now) routine_content c.in-Err.refusal
-    (search rules) c.in-Err.ensures in
-    rw e refl
+pub returns-clause-says : goal.returns-clause-says
+returns-clause-says c =
+    kept_said (report_of c.args.bytes.now) c.in_ok-verdict.field-0 c.new.result c.new.ensures
+    c.in_ok-verdict.ensures
 
-pub returns : goal.returns
-returns c =
-    let e = value_said (load_of c.args.bytes.now) routine_content c.in-Ok.routine c.in-Ok.ensures in
-    rw (
-      e,
-      c.in_ok-write_outline.ensures,
-      c.in_ok-writeln.ensures.bytes,
-      c.new-text.ensures.bytes,
-      c.of.ensures,
-    ) refl
+pub returns-clause-prints : goal.returns-clause-prints
+returns-clause-prints c =
+    kept_text (report_of c.args.bytes.now) c.in_ok-verdict.field-0 c.new.result c.new.ensures
+    c.in_ok-verdict.ensures
