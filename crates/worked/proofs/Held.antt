@@ -18,7 +18,7 @@ use Rattle.rules.specs.Model.{settled, path, model}
 use Rattle.count.specs.Calls.{new_state, first_not_input}
 use Rattle.relay.specs.History.{Transition, trace}
 use Rattle.worked.specs.Examples.{Example, firsts, seconds, entry_of, Holds}
-use Rattle.worked.specs.Worked.{examples}
+use Rattle.worked.specs.Worked.{examples, unprinted}
 
 -- what is computed for an example
 record Computed : Type 0 where
@@ -98,3 +98,8 @@ each (x ∷ xs) e =
 pub all_hold : All Holds examples
 unfolding word_set empty tree tree_at check_of settled path first_not_input trace ℕ_discrete
 all_hold = each examples refl
+
+-- and of those that are not printed
+pub unprinted_hold : All Holds unprinted
+unfolding word_set empty tree tree_at check_of settled path first_not_input trace ℕ_discrete
+unprinted_hold = each unprinted refl

@@ -111,6 +111,24 @@ new_life =
       calls = [];
     }
 
+-- 7 too, the signals numbered the other way round: output O = 0, local L = 1
+abbrev pub new_life_renumbered : Example
+new_life_renumbered =
+    record {
+      number = 7;
+      signals = Output ∷ Own ∷ [];
+      kinds = Loop 1 ∷ Local 1 2 ∷ Sequence 3 6 ∷ When 1 4 5 ∷ Emit 0 ∷ Nothing ∷ Sequence 7 8
+          ∷ Stop ∷ Emit 1 ∷ [];
+      refusal = None;
+      words =
+          (0, (0, Suspended, 2))
+          ∷ (0, (0, Suspended, 2))
+          ∷ (0, (0, Suspended, 7))
+          ∷ (0, (0, Suspended, 2))
+          ∷ [];
+      calls = [];
+    }
+
 -- 8: parallel(emit A, wait A), output A = 0. The wait is not ready before the emit was stepped
 abbrev pub side_by_side : Example
 side_by_side =
@@ -162,3 +180,7 @@ abbrev pub examples : List Example
 examples =
     nothing_at_all ∷ just_stop ∷ relayed ∷ too_late ∷ killed ∷ over_already ∷ new_life
     ∷ side_by_side ∷ endless ∷ takes_time ∷ []
+
+-- of these too something is claimed, but no line is printed
+abbrev pub unprinted : List Example
+unprinted = new_life_renumbered ∷ []

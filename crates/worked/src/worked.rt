@@ -1,7 +1,7 @@
 ghost use Rattle.std.specs.Prelude.{◌≡◌, All, Some};
 ghost use Rattle.worked.specs.SummaryText.{summary_text};
 ghost use Rattle.worked.specs.Examples.{Holds, lines};
-ghost use Rattle.worked.specs.Worked.{examples};
+ghost use Rattle.worked.specs.Worked.{examples, unprinted};
 
 use rules::Status;
 use std::fmt;
@@ -38,10 +38,12 @@ impl fmt::Display for Summary {
 }
 
 /// What the plain model makes of the words of the worked routines, instant by instant (`lines`).
-/// All that is claimed of these routines holds (`claims`).
+/// All that is claimed of these routines holds (`claims`), and of one of them that is numbered in
+/// another way (`unprinted`).
 pub fn worked_routines() -> [Summary; 15]
     ensures lines { result ≡ lines examples }
     ensures claims { All Holds examples }
+    ensures unprinted { All Holds unprinted }
 {
     [
         Summary {
