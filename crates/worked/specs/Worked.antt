@@ -120,12 +120,7 @@ new_life_renumbered =
       kinds = Loop 1 ∷ Local 1 2 ∷ Sequence 3 6 ∷ When 1 4 5 ∷ Emit 0 ∷ Nothing ∷ Sequence 7 8
           ∷ Stop ∷ Emit 1 ∷ [];
       refusal = None;
-      words =
-          (0, (0, Suspended, 2))
-          ∷ (0, (0, Suspended, 2))
-          ∷ (0, (0, Suspended, 7))
-          ∷ (0, (0, Suspended, 2))
-          ∷ [];
+      words = new_life.words;
       calls = [];
     }
 
